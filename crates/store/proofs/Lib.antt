@@ -1,0 +1,3 @@
+pub mod Rises
+pub mod Walks
+pub mod Spots
