@@ -3,6 +3,8 @@
 //! A fact is an id, a kind and three values; which positions are in use is a matter of its
 //! kind's arity, and the others hold 0. Nothing stands below this crate; every other one cites it.
 
+pub mod positions;
+
 /// What a fact goes by: given out from 1 upward and never used again.
 pub type Id = u32;
 

@@ -5,7 +5,7 @@ use crate::types::Comparator;
 use crate::types::Working;
 
 /// The host of ordinary numbers: every signed 32-bit number is a value.
-#[derive(Clone, Copy, Debug)]
+#[derive(Clone, Copy)]
 pub struct Counts;
 
 pub impl Host for Counts as CountsHost {

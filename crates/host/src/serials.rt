@@ -7,7 +7,7 @@ use crate::types::Comparator;
 use crate::types::Working;
 
 /// The host of numbers that come round: 0 to 999,999 are values, and 0 follows 999,999.
-#[derive(Clone, Copy, Debug)]
+#[derive(Clone, Copy)]
 pub struct Serials;
 
 // How many serials there are.

@@ -11,7 +11,7 @@ pub enum Comparator {
 }
 
 /// How a value is worked out from operands of a kind T.
-#[derive(Clone, Copy, PartialEq, Eq, Debug)]
+#[derive(Clone, Copy)]
 pub enum Working<T> {
     Copy(T),
     Sum(T, T),

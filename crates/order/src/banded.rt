@@ -2,7 +2,7 @@ ghost use Rattle.order.specs.Bands.{sooner};
 use crate::order::Order;
 
 /// The order by band: the smaller band is better, and of equal bands the smaller value.
-#[derive(Clone, Copy, Debug)]
+#[derive(Clone, Copy)]
 pub struct Banded;
 
 /// A band, and a value within it.

@@ -2,7 +2,7 @@ ghost use lib.Signed.{ltZ};
 use crate::order::Order;
 
 /// The order by value alone: the smaller value is better, the band is ignored.
-#[derive(Clone, Copy, Debug)]
+#[derive(Clone, Copy)]
 pub struct Plain;
 
 pub impl Order for Plain as PlainOrder {

@@ -1,2 +1,3 @@
+pub mod Blanks
 pub mod Bytes
 pub mod Faults

@@ -176,5 +176,3 @@ find-push (g ∷ fs) f a =
     let h = a .0 in
     cond-false (eqb (g .id) (f .id)) (Some g) (find (f .id) (fs ++ f ∷ [])) (ne-eqb (g .id) (f .id) (λ e. omega arith))
     ∙ find-push fs f (a .1)
-bad-lemma : _≡_ {A = ℕ} 0 1
-bad-lemma = refl

@@ -11,14 +11,13 @@
 --     Added fact facts rows ok after
 --                               what adding a fact to a store of so many rows answers and leaves
 --     place id facts            how many facts stand before the first id at or above id
---     blank                     the fact of zeros, read where a list has no such place
+--     blank                     what a read past the end of a list counts as
 --     Spot id facts i           at place i stands the fact with that id
 use mathlib.Core.Path.{_≡_}
 use mathlib.Core.List.{List, [], _∷_, _++_}
 use mathlib.Core.Bool.{Bool, true, false, cond, _&&_}
 use Prim.Native.Nat.{ℕ, suc, _<_}
 use lib.Dec.{eqb, leb, ltb}
-use lib.IntN.{pos}
 use lib.ListN.{length, getD}
 use Rattle.std.specs.Holes.{removed}
 use Rattle.std.specs.declared.option.Option.{Option}
@@ -73,7 +72,7 @@ place id [] = 0
 place id (f ∷ fs) = cond (ltb (f .id) id) (suc (place id fs)) 0
 
 abbrev pub blank : Fact
-blank = record { id = 0; kind = 0; values = pos 0 ∷ pos 0 ∷ pos 0 ∷ [] }
+blank = record { id = 0; kind = 0; values = [] }
 
 pub record Spot (id : ℕ) (facts : List Fact) (i : ℕ) : Type 0 where
   pub within : i < length facts
