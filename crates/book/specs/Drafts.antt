@@ -2,8 +2,11 @@
 --     Tables, Draft           kinds and rules; with the state, which record came last
 --     follows s k             the state after a record of kind k, if it may follow in state s
 --     entered t r             the tables with the record r in them, or the fault
+--     opened t f              the tables with the open rule changed by f, or the fault
+--     fresh                   the draft that has taken no record
 --     taking d bs             the kind of the record that the bytes bs begin with, and the draft
 --                             with it, or the fault; the first test that fails decides
+--     taken-kind, taken-draft      what it answers, and the draft then: as it was where refused
 --     is-open s               whether a rule is open
 --     finished d              the rules that have ended
 --     told x, kept-or x y     a result without its value; its value, or y where it is a fault
@@ -12,7 +15,7 @@ use mathlib.Core.List.{List, [], _∷_, _++_}
 use lib.IntN.{ℤ, pos}
 use Prim.Native.Nat.{ℕ, _-_}
 use lib.Dec.{ltb}
-use lib.ListN.{length, getD, set, take}
+use lib.ListN.{length, getD, set, take, replicate}
 use Rattle.std.specs.declared.option.Option.{Option}
 use Rattle.std.specs.declared.option.Option.the-variants.{Some, None}
 use Rattle.std.specs.declared.result.Result.{Result}
@@ -201,11 +204,12 @@ pub record Tables : Type 0 where
 abbrev pub open-rule : List Rule → Rule
 open-rule rs = getD rs (length rs - 1) blank-rule
 
--- the open rule changed, or the fault
+-- the open rule changed, or the fault; nothing that changes it may follow where there is no rule
 abbrev pub opened : Tables → (Rule → Result Rule Fault) → Result Tables Fault
 opened t f =
+    and-then (unless (ltb 0 (length (t .rules))) fault.MayNotFollow) (λ _.
     and-then (f (open-rule (t .rules))) (λ r.
-    Ok (record { kinds = t .kinds; rules = set (t .rules) (length (t .rules) - 1) r }))
+    Ok (record { kinds = t .kinds; rules = set (t .rules) (length (t .rules) - 1) r })))
 
 abbrev pub entered : Tables → Record → Result Tables Fault
 entered t (record-of.FactKind n a) =
@@ -232,6 +236,9 @@ pub record Draft : Type 0 where
   pub state : State
   pub tables : Tables
 
+abbrev pub fresh : Draft
+fresh = record { state = state.Between; tables = record { kinds = replicate 32 None; rules = [] } }
+
 abbrev pub taking : Draft → List ℕ → Result (RecordKind × Draft) Fault
 taking d bs =
     and-then (begun bs) (λ k.
@@ -239,6 +246,14 @@ taking d bs =
     and-then (fields k bs) (λ r.
     and-then (entered (d .tables) r) (λ t.
     Ok (k, record { state = s; tables = t })))))
+
+abbrev pub taken-kind : Result (RecordKind × Draft) Fault → Result RecordKind Fault
+taken-kind (Ok p) = Ok (p .0)
+taken-kind (Err f) = Err f
+
+abbrev pub taken-draft : Result (RecordKind × Draft) Fault → Draft → Draft
+taken-draft (Ok p) d = p .1
+taken-draft (Err f) d = d
 
 abbrev pub finished : Draft → List Rule
 finished d = cond (is-open (d .state)) (take (length (d .tables .rules) - 1) (d .tables .rules)) (d .tables .rules)

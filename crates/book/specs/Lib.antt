@@ -1,2 +1,4 @@
 pub mod Rules
 pub mod Drafts
+pub mod Held
+pub mod Books

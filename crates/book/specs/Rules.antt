@@ -5,10 +5,11 @@
 --     binds hs v         some head of hs has the variable v
 --     bound hs o         o is a constant or a variable that some head binds
 --     closed r           r has a head, and each variable in its guards, body facts and rank is bound
+--     small r            r has at most four heads, and their variables have numbers below 12
 use mathlib.Core.Bool.{Bool, true, false, _&&_, _||_}
 use mathlib.Core.List.{List, [], _∷_}
 use Prim.Native.Nat.{ℕ}
-use lib.Dec.{eqb, ltb}
+use lib.Dec.{eqb, leb, ltb}
 use lib.ListN.{length, getD}
 use Rattle.std.specs.declared.option.Option.{Option}
 use Rattle.std.specs.declared.option.Option.the-variants.{Some, None}
@@ -84,3 +85,15 @@ headed r = ltb 0 (length (r .heads))
 
 abbrev pub closed : Rule → Bool
 closed r = headed r && (parts-bound r && bound (r .heads) (r .rank))
+
+-- Size
+
+abbrev pub in-range : Operand → Bool
+in-range (Constant n) = true
+in-range (Variable v) = ltb v 12
+
+abbrev pub head-in-range : Head → Bool
+head-in-range h = all in-range (h .operands)
+
+abbrev pub small : Rule → Bool
+small r = leb (length (r .heads)) 4 && all head-in-range (r .heads)

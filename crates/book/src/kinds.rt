@@ -39,7 +39,7 @@ impl Kinds {
         if kind as usize >= self.arities.len() {
             return Err(Fault::OutOfRange);
         }
-        if self.arities[kind as usize].is_some() {
+        if self.arity(kind).is_some() {
             return Err(Fault::DeclaredTwice);
         }
         self.arities[kind as usize] = Some(arity);

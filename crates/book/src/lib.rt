@@ -5,6 +5,9 @@
 //! a head, and none has a variable that no head of the rule binds. Below stand the records of the
 //! week file; above, the reader of a whole file and the run.
 
+mod binds;
+pub mod book;
 pub mod draft;
+mod grow;
 pub mod kinds;
 pub mod rule;

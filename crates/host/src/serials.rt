@@ -1,6 +1,6 @@
 ghost use mathlib.Core.Path.{_≡_};
 ghost use mathlib.Core.Bool.{true, _&&_};
-ghost use Rattle.host.specs.Serials.{is-serial, modulo, ahead, serial-says, serial-works};
+ghost use Rattle.host.specs.Serials.{is-serial, ahead, serial-says, serial-works};
 use crate::host::Host;
 use crate::types::Cause;
 use crate::types::Comparator;
@@ -66,6 +66,7 @@ pub impl Host for Serials as SerialsHost {
     }
 }
 
+// A serial as it is.
 fn copied(a: i32) -> Result<i32, Cause>
     ensures value { λ r. ⌜ r ≡ serial-works (Working.Copy a) ⌝ }
 {
@@ -76,6 +77,7 @@ fn copied(a: i32) -> Result<i32, Cause>
     }
 }
 
+// The sum of two serials, come round.
 fn sum(a: i32, b: i32) -> Result<i32, Cause>
     ensures value { λ r. ⌜ r ≡ serial-works (Working.Sum a b) ⌝ }
 {
@@ -86,6 +88,7 @@ fn sum(a: i32, b: i32) -> Result<i32, Cause>
     }
 }
 
+// The difference of two serials, come round.
 fn difference(a: i32, b: i32) -> Result<i32, Cause>
     ensures value { λ r. ⌜ r ≡ serial-works (Working.Difference a b) ⌝ }
 {

@@ -1,0 +1,6 @@
+pub mod Refusals
+pub mod Setup
+pub mod Words
+pub mod Instances
+pub mod Enumeration
+pub mod Firing
