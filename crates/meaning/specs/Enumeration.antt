@@ -26,7 +26,7 @@ use Rattle.records.specs.declared.parts.Guard.{Guard}
 use Rattle.records.specs.declared.parts.Head.{Head}
 use Rattle.records.specs.declared.parts.Operand.{Operand}
 use Rattle.records.specs.declared.parts.Operand.the-variants.{Constant, Variable}
-use Rattle.book.specs.Rules.{Rule, any}
+use Rattle.rules.specs.Rules.{Rule, any}
 use Rattle.store.specs.Store.{since}
 use Rattle.meaning.specs.declared.roll.Entry.{Entry}
 use Rattle.meaning.specs.declared.roll.Entry.the-variants.{HandedIn, Fired}

@@ -26,9 +26,9 @@ use Rattle.host.specs.declared.types.Working.{Working}
 use Rattle.host.specs.declared.types.Working.the-variants.{Copy, Sum, Difference}
 use Rattle.records.specs.declared.parts.Head.{Head}
 use Rattle.records.specs.declared.parts.Operand.{Operand}
-use Rattle.book.specs.declared.rule.BodyFact.{BodyFact}
-use Rattle.book.specs.Rules.{Rule, arity-of}
-use Rattle.book.specs.Drafts.{and-then, blank-rule}
+use Rattle.rules.specs.declared.BodyFact.{BodyFact}
+use Rattle.rules.specs.Rules.{Rule, arity-of, blank-rule}
+use Rattle.rules.specs.Results.{and-then, unless}
 use Rattle.store.specs.Store.{find, without}
 use Rattle.meaning.specs.declared.refusal.Refusal.{Refusal}
 use Rattle.meaning.specs.declared.refusal.Refusal.the-variants as refusal
@@ -37,9 +37,6 @@ use Rattle.meaning.specs.declared.refusal.WorkingFault.{WorkingFault}
 use Rattle.meaning.specs.declared.roll.Entry.the-variants.{HandedIn, Fired}
 use Rattle.meaning.specs.Setup.{Setup, State, Due}
 use Rattle.meaning.specs.Enumeration.{Env, unbound, agreed, worth}
-
-abbrev pub refused-unless : Bool → Refusal → Result (Unit {0}) Refusal
-refused-unless b r = cond b (Ok tt) (Err r)
 
 -- The bindings of an instance, from its rule and its ids
 
@@ -134,8 +131,8 @@ module _ {R : Type 0} (s : Setup R) (t : State) where
   fire n is =
       let r = rule-at (s .rules) n in
       and-then (body-worked r n is) (λ ws.
-      and-then (refused-unless (leb (length ws) (s .rows - length (t .facts) + length (taken-ids (r .heads) is))) (refusal.NoRow (site.Rule n))) (λ _.
-      and-then (refused-unless (ltb (length (t .roll)) roll-places) (refusal.RollFull (site.Rule n))) (λ _.
+      and-then (unless (leb (length ws) (s .rows - length (t .facts) + length (taken-ids (r .heads) is))) (refusal.NoRow (site.Rule n))) (λ _.
+      and-then (unless (ltb (length (t .roll)) roll-places) (refusal.RollFull (site.Rule n))) (λ _.
       Ok (after-firing r n is ws))))
 
   -- Hand-ins
@@ -161,11 +158,11 @@ module _ {R : Type 0} (s : Setup R) (t : State) where
 
   abbrev pub hand-in : ℕ → List ℤ → Result State Refusal
   hand-in k vs =
-      and-then (refused-unless (cond (t .failed) false true) refusal.Failed) (λ _.
-      and-then (refused-unless (ltb k 32) refusal.OutOfRange) (λ _.
+      and-then (unless (cond (t .failed) false true) refusal.Failed) (λ _.
+      and-then (unless (ltb k 32) refusal.OutOfRange) (λ _.
       and-then (ok-or (arity-of (s .kinds) k) refusal.NotDeclared) (λ a.
-      and-then (refused-unless (unused-clear is-zero a vs) refusal.UnusedFilled) (λ _.
-      and-then (refused-unless (used-values (s .value) a vs) refusal.NotAValue) (λ _.
-      and-then (refused-unless (ltb (length (t .facts)) (s .rows)) (refusal.NoRow site.HandIn)) (λ _.
-      and-then (refused-unless (ltb (length (t .roll)) roll-places) (refusal.RollFull site.HandIn)) (λ _.
+      and-then (unless (unused-clear is-zero a vs) refusal.UnusedFilled) (λ _.
+      and-then (unless (used-values (s .value) a vs) refusal.NotAValue) (λ _.
+      and-then (unless (ltb (length (t .facts)) (s .rows)) (refusal.NoRow site.HandIn)) (λ _.
+      and-then (unless (ltb (length (t .roll)) roll-places) (refusal.RollFull site.HandIn)) (λ _.
       Ok (after-hand-in k vs))))))))

@@ -25,7 +25,7 @@ use Rattle.records.specs.declared.parts.Guard.{Guard}
 use Rattle.records.specs.declared.parts.Head.{Head}
 use Rattle.records.specs.declared.parts.Operand.{Operand}
 use Rattle.records.specs.declared.parts.Operand.the-variants.{Constant, Variable}
-use Rattle.book.specs.Rules.{Rule}
+use Rattle.rules.specs.Rules.{Rule}
 use Rattle.meaning.specs.declared.roll.Entry.the-variants.{Fired}
 use Rattle.meaning.specs.Setup.{Setup, State, Due}
 use Rattle.meaning.specs.Words.{In, All, Both, Different, Sooner, Numbered}

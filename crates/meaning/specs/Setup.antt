@@ -14,7 +14,7 @@ use Rattle.facts.specs.declared.Fact.{Fact}
 use Rattle.host.specs.declared.types.Cause.{Cause}
 use Rattle.host.specs.declared.types.Comparator.{Comparator}
 use Rattle.host.specs.declared.types.Working.{Working}
-use Rattle.book.specs.Rules.{Rule}
+use Rattle.rules.specs.Rules.{Rule}
 use Rattle.meaning.specs.declared.roll.Entry.{Entry}
 
 pub record Setup (R : Type 0) : Type 0 where

@@ -1,7 +1,0 @@
-use Rattle.book.proofs.draft.Tables.put_guard.Needs as need
-
-pub returns-in-rest : need.returns-in-rest
-returns-in-rest c = ?
-
-pub returns : need.returns
-returns c = ?
