@@ -1,2 +1,5 @@
 pub mod Finds
 pub mod OpenRules
+pub mod Records
+pub mod States
+pub mod Soundness

@@ -1,27 +1,46 @@
--- The last rule lent out of the tables and changed there is the open rule changed.
+-- What the tables mean after a rule has begun, and after the open rule was lent and changed.
 use mathlib.Core.Bool.{Bool, true, false}
-use mathlib.Core.List.{List, map}
+use mathlib.Core.List.{List, [], _∷_, _++_, map}
+use mathlib.Core.Option.{Option}
 use mathlib.Core.Path.{_≡_, refl, sym, ap, _∙_}
-use Prim.Native.Nat.{ℕ, _-_, _<_}
+use Prim.Native.Nat.{ℕ, _-_, _<_, _≤_}
+use native.Mathlib.Bridge.{le-prop}
 use native.Mathlib.Omega.{arith}
+use base.Fml.{GName}
+use borrow.Follows.Closed.{readOf}
 use lib.Dec.{ltb}
 use lib.ListN.{length, getD, set, length-map}
-use Rattle.std.proofs.shelf.Lists.{map-set, getD-map, set-getD}
-use Rattle.std.proofs.shelf.Tests.{ltb-true}
-use Rattle.std.specs.Of.Vec.{vec-items, vec-len}
+use Rattle.std.proofs.shelf.Lists.{map-set, map-push, getD-map, set-getD}
+use Rattle.std.proofs.shelf.Tests.{ltb-true, lt-ltb, le-ltb}
+use Rattle.std.specs.Changed.{with-item}
+use Rattle.std.specs.Of.Vec.{vec-items, vec-len, vec-cap}
 use Rattle.std.specs.declared.result.Result.{Result}
 use Rattle.std.specs.declared.result.Result.the-variants.{Ok, Err}
 use Rattle.records.specs.declared.fault.Fault.{Fault}
 use Rattle.records.specs.declared.fault.Fault.the-variants as fault
+use Rattle.records.specs.declared.kinds.Record.the-variants as record-of
 use Rattle.book.specs.declared.draft.Tables.{Tables as TablesData}
 use Rattle.book.specs.declared.rule.Rule.{Rule as RuleData}
 use Rattle.book.specs.Rules.{Rule, rule-of}
-use Rattle.book.specs.Drafts.{Tables, and-then, told, kept-or, unless, blank-rule, open-rule, opened}
+use Rattle.book.specs.Drafts.{Tables, and-then, told, kept-or, unless, blank-rule, open-rule, opened, entered}
 use Rattle.book.specs.Held.{tables-of, with-last}
 
 module _ (t : TablesData) where
   as-many : length (map rule-of (vec-items (t .rules))) ≡ vec-len (t .rules)
   as-many = length-map (vec-items (t .rules)) rule-of ∙ sym (t .rules .ok .0)
+
+  -- one rule more, or none
+  pub begin-full : 64 ≤ vec-len (t .rules) → entered (tables-of t) record-of.RuleBegins ≡ Err fault.TooMany
+  begin-full h = ap (λ b. and-then (unless b fault.TooMany) (λ _. Ok (record { kinds = t .kinds .arities; rules = tables-of t .rules ++ blank-rule ∷ [] }))) (ap (λ n. ltb n 64) as-many ∙ le-ltb _ 64 h)
+
+  pub begin-more : vec-len (t .rules) < 64 → entered (tables-of t) record-of.RuleBegins ≡ Ok (record { kinds = t .kinds .arities; rules = tables-of t .rules ++ blank-rule ∷ [] })
+  begin-more h = ap (λ b. and-then (unless b fault.TooMany) (λ _. Ok (record { kinds = t .kinds .arities; rules = tables-of t .rules ++ blank-rule ∷ [] }))) (ap (λ n. ltb n 64) as-many ∙ lt-ltb _ 64 h)
+
+  pub begin-after : vec-len (t .rules) < 64 → (rs : List RuleData) (r : RuleData) → rs ≡ vec-items (t .rules) ++ r ∷ [] → rule-of r ≡ blank-rule
+    → record { kinds = t .kinds .arities; rules = map rule-of rs } ≡ kept-or (entered (tables-of t) record-of.RuleBegins) (tables-of t)
+  begin-after h rs r e b =
+      ap (λ qs. record { kinds = t .kinds .arities; rules = qs }) (ap (map rule-of) e ∙ map-push rule-of (vec-items (t .rules)) r ∙ ap (λ q. tables-of t .rules ++ q ∷ []) b)
+        ∙ sym (ap (λ x. kept-or x (tables-of t)) (begin-more h))
 
   -- there is no rule
   pub opened-none : (f : Rule → Result Rule Fault) → false ≡ ltb 0 (vec-len (t .rules)) → opened (tables-of t) f ≡ Err fault.MayNotFollow
@@ -72,3 +91,12 @@ module _ (t : TablesData) where
       go : (x : Result Rule Fault) → rule-of w ≡ kept-or x (rule-of r) → put (rule-of w) ≡ kept-or (and-then x (λ q. Ok (put q))) (tables-of t)
       go (Ok q) k = ap put k
       go (Err f) k = ap put k ∙ put-same
+
+-- what the tables lend does not depend on how their bounds were shown
+pub lent-same : (m : Option GName) (t : TablesData) (few : (w : RuleData) → vec-len (t .rules) ≤ 64) (room : (w : RuleData) → 64 ≤ vec-cap (t .rules))
+    (few₀ : vec-len (t .rules) ≤ 64) (room₀ : 64 ≤ vec-cap (t .rules))
+  → readOf m (λ w. record { kinds = t .kinds; rules = with-item (t .rules) (vec-len (t .rules) - 1) w; few = few w; room = room w }) (record { kinds = t .kinds; rules = t .rules; few = few₀; room = room₀ })
+    ≡ readOf m (with-last t) t
+lent-same m t few room few₀ room₀ = λ i. readOf m
+    (λ w. record { kinds = t .kinds; rules = with-item (t .rules) (vec-len (t .rules) - 1) w; few = le-prop (few w) (t .few) i; room = le-prop (room w) (t .room) i })
+    (record { kinds = t .kinds; rules = t .rules; few = le-prop few₀ (t .few) i; room = le-prop room₀ (t .room) i })

@@ -2,13 +2,15 @@
 --     Tables, Draft           kinds and rules; with the state, which record came last
 --     follows s k             the state after a record of kind k, if it may follow in state s
 --     entered t r             the tables with the record r in them, or the fault
+--     with-part p r           the rule r with the part p put into it, or the fault
 --     opened t f              the tables with the open rule changed by f, or the fault
 --     fresh                   the draft that has taken no record
 --     taking d bs             the kind of the record that the bytes bs begin with, and the draft
 --                             with it, or the fault; the first test that fails decides
 --     taken-kind, taken-draft      what it answers, and the draft then: as it was where refused
 --     is-open s               whether a rule is open
---     finished d              the rules that have ended
+--     ended s rs, finished d  the rules that have ended
+--     rules-sound s rs        what a draft keeps of its rules
 --     told x, kept-or x y     a result without its value; its value, or y where it is a fault
 use mathlib.Core.Bool.{Bool, true, false, cond, not, _&&_, _||_}
 use mathlib.Core.List.{List, [], _∷_, _++_}
@@ -42,6 +44,8 @@ use Rattle.records.specs.declared.parts.WorkingField.{WorkingField}
 use Rattle.records.specs.declared.parts.BodyField.{BodyField}
 use Rattle.book.specs.declared.draft.State.{State}
 use Rattle.book.specs.declared.draft.State.the-variants as state
+use Rattle.book.specs.declared.part.Part.{Part}
+use Rattle.book.specs.declared.part.Part.the-variants as part
 use Rattle.book.specs.declared.rule.BodyFact.{BodyFact}
 use Rattle.book.specs.Rules.{Rule, arity-of, bound, guard-bound, fact-bound, parts-bound, headed, closed}
 
@@ -164,6 +168,13 @@ with-end b o r =
     and-then (unless (bound (r .heads) o) fault.Unbound) (λ _.
     Ok (record { heads = r .heads; guards = r .guards; facts = r .facts; fails = r .fails; band = b; rank = o }))
 
+abbrev pub with-part : Part → Rule → Result Rule Fault
+with-part (part.Head h) r = with-head h r
+with-part (part.Guard g) r = with-guard g r
+with-part (part.Fact f) r = with-fact f r
+with-part part.Fail r = with-fail r
+with-part (part.End b o) r = with-end b o r
+
 -- Body facts: a copy's second operand is unused, and so is each working at or above the arity
 
 abbrev pub copy-clear : Operation → Operand → Bool
@@ -220,14 +231,14 @@ entered t record-of.RuleBegins =
 entered t (record-of.Head h) =
     and-then (declared (t .kinds) (h .kind)) (λ a.
     and-then (unless (unused-clear operand-blank a (h .operands)) fault.UnusedFilled) (λ _.
-    opened t (with-head h)))
-entered t (record-of.Guard g) = opened t (with-guard g)
+    opened t (with-part (part.Head h))))
+entered t (record-of.Guard g) = opened t (with-part (part.Guard g))
 entered t (record-of.BodyFact f) =
     and-then (declared (t .kinds) (f .kind)) (λ a.
     and-then (unless (body-clear a (f .workings)) fault.UnusedFilled) (λ _.
-    opened t (with-fact (body-fact a f))))
-entered t record-of.Fail = opened t with-fail
-entered t (record-of.RuleEnds b o) = opened t (with-end b o)
+    opened t (with-part (part.Fact (body-fact a f)))))
+entered t record-of.Fail = opened t (with-part part.Fail)
+entered t (record-of.RuleEnds b o) = opened t (with-part (part.End b o))
 entered t (record-of.GoalFact g) = Err fault.MayNotFollow
 
 -- The draft
@@ -255,20 +266,23 @@ abbrev pub taken-draft : Result (RecordKind × Draft) Fault → Draft → Draft
 taken-draft (Ok p) d = p .1
 taken-draft (Err f) d = d
 
+-- the rules that have ended: all of them, or all but the last where one is open
+abbrev pub ended : State → List Rule → List Rule
+ended s rs = cond (is-open s) (take (length rs - 1) rs) rs
+
 abbrev pub finished : Draft → List Rule
-finished d = cond (is-open (d .state)) (take (length (d .tables .rules) - 1) (d .tables .rules)) (d .tables .rules)
+finished d = ended (d .state) (d .tables .rules)
 
--- What a draft keeps: every rule that has ended is closed, and the parts of the open one are bound
+-- What a draft keeps: every rule that has ended is closed, the parts of the open one are bound,
+-- and it has a head unless it has just begun
 
-abbrev pub last-sound : State → Rule → Bool
-last-sound state.Between r = closed r
-last-sound state.Begun r = parts-bound r
-last-sound state.Heads r = headed r && parts-bound r
-last-sound state.Guards r = headed r && parts-bound r
-last-sound state.Facts r = headed r && parts-bound r
-last-sound state.Failing r = headed r && parts-bound r
+abbrev pub open-sound : State → Rule → Bool
+open-sound state.Between r = true
+open-sound state.Begun r = parts-bound r
+open-sound state.Heads r = headed r && parts-bound r
+open-sound state.Guards r = headed r && parts-bound r
+open-sound state.Facts r = headed r && parts-bound r
+open-sound state.Failing r = headed r && parts-bound r
 
 abbrev pub rules-sound : State → List Rule → Bool
-rules-sound s [] = not (is-open s)
-rules-sound s (r ∷ []) = last-sound s r
-rules-sound s (r ∷ q ∷ rs) = closed r && rules-sound s (q ∷ rs)
+rules-sound s rs = all closed (ended s rs) && open-sound s (open-rule rs)

@@ -9,6 +9,7 @@ use crate::kinds::Kinds;
 use crate::rule::Rule;
 
 mod asks;
+mod close;
 
 /// Finished rules and the kinds they speak of; made by closing a draft, and never changed.
 #[derive(Drop)]

@@ -9,7 +9,8 @@ use crate::kinds::Kinds;
 use crate::rule::Rule;
 
 
-
+mod calls;
+mod enter;
 mod lends;
 
 /// How many rules a draft has at most.

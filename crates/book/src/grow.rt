@@ -1,9 +1,10 @@
 ghost use mathlib.Core.Path.{_≡_};
 ghost use Rattle.book.specs.Rules.{rule-of};
-ghost use Rattle.book.specs.Drafts.{told, kept-or, blank-rule, with-head, with-guard, with-fact, with-fail, with-end};
+ghost use Rattle.book.specs.Drafts.{told, kept-or, blank-rule, with-head, with-guard, with-fact, with-fail, with-end, with-part};
 use crate::binds::bound;
 use crate::binds::fact_bound;
 use crate::binds::guard_bound;
+use crate::part::Part;
 use crate::rule::BodyFact;
 use crate::rule::Rule;
 use few::Few;
@@ -31,8 +32,22 @@ impl Rule {
         }
     }
 
-    /// One head more; refused where there are four.
-    pub(crate) fn add_head(&mut self, head: Head) -> Result<(), Fault>
+    /// Puts a part into the rule.
+    pub(crate) fn add(&mut self, part: Part) -> Result<(), Fault>
+        ensures value { λ r. ⌜ r ≡ told (with-part part (rule-of (now (self .entry)))) ⌝ }
+        ensures after { λ _. ⌜ rule-of (now (self .exit)) ≡ kept-or (with-part part (rule-of (now (self .entry)))) (rule-of (now (self .entry))) ⌝ }
+    {
+        match part {
+            Part::Head(head) => self.add_head(head),
+            Part::Guard(guard) => self.add_guard(guard),
+            Part::Fact(fact) => self.add_fact(fact),
+            Part::Fail => self.set_fails(),
+            Part::End { band, rank } => self.end(band, rank),
+        }
+    }
+
+    // One head more; refused where there are four.
+    fn add_head(&mut self, head: Head) -> Result<(), Fault>
         ensures value { λ r. ⌜ r ≡ told (with-head head (rule-of (now (self .entry)))) ⌝ }
         ensures after { λ _. ⌜ rule-of (now (self .exit)) ≡ kept-or (with-head head (rule-of (now (self .entry)))) (rule-of (now (self .entry))) ⌝ }
     {
@@ -42,8 +57,8 @@ impl Rule {
         }
     }
 
-    /// One guard more; refused where a variable is not bound, or where there are eight.
-    pub(crate) fn add_guard(&mut self, guard: Guard) -> Result<(), Fault>
+    // One guard more; refused where a variable is not bound, or where there are eight.
+    fn add_guard(&mut self, guard: Guard) -> Result<(), Fault>
         ensures value { λ r. ⌜ r ≡ told (with-guard guard (rule-of (now (self .entry)))) ⌝ }
         ensures after { λ _. ⌜ rule-of (now (self .exit)) ≡ kept-or (with-guard guard (rule-of (now (self .entry)))) (rule-of (now (self .entry))) ⌝ }
     {
@@ -56,8 +71,8 @@ impl Rule {
         }
     }
 
-    /// One body fact more; refused where a variable is not bound, or where there are four.
-    pub(crate) fn add_fact(&mut self, fact: BodyFact) -> Result<(), Fault>
+    // One body fact more; refused where a variable is not bound, or where there are four.
+    fn add_fact(&mut self, fact: BodyFact) -> Result<(), Fault>
         ensures value { λ r. ⌜ r ≡ told (with-fact fact (rule-of (now (self .entry)))) ⌝ }
         ensures after { λ _. ⌜ rule-of (now (self .exit)) ≡ kept-or (with-fact fact (rule-of (now (self .entry)))) (rule-of (now (self .entry))) ⌝ }
     {
@@ -70,8 +85,8 @@ impl Rule {
         }
     }
 
-    /// The rule fails the run instead of writing.
-    pub(crate) fn set_fails(&mut self) -> Result<(), Fault>
+    // The rule fails the run instead of writing.
+    fn set_fails(&mut self) -> Result<(), Fault>
         ensures value { λ r. ⌜ r ≡ told (with-fail (rule-of (now (self .entry)))) ⌝ }
         ensures after { λ _. ⌜ rule-of (now (self .exit)) ≡ kept-or (with-fail (rule-of (now (self .entry)))) (rule-of (now (self .entry))) ⌝ }
     {
@@ -79,8 +94,8 @@ impl Rule {
         Ok(())
     }
 
-    /// The rule has ended; refused where the variable of its rank is not bound.
-    pub(crate) fn end(&mut self, band: u8, rank: Operand) -> Result<(), Fault>
+    // The rule has ended; refused where the variable of its rank is not bound.
+    fn end(&mut self, band: u8, rank: Operand) -> Result<(), Fault>
         ensures value { λ r. ⌜ r ≡ told (with-end band rank (rule-of (now (self .entry)))) ⌝ }
         ensures after { λ _. ⌜ rule-of (now (self .exit)) ≡ kept-or (with-end band rank (rule-of (now (self .entry)))) (rule-of (now (self .entry))) ⌝ }
     {

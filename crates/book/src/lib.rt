@@ -10,4 +10,5 @@ pub mod book;
 pub mod draft;
 mod grow;
 pub mod kinds;
+mod part;
 pub mod rule;

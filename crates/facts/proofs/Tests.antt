@@ -8,20 +8,18 @@ use Rattle.std.proofs.shelf.Lists.{at-drop-more, at-drop-all}
 use Rattle.facts.specs.Positions.{all}
 
 module _ {A : Type 0} (test : A → Bool) (xs : List A) (i : ℕ) where
-  pub all-at : (x : A) → i < length xs → x ≡ getD xs i x → all test (drop i xs) ≡ test x && all test (drop (i + 1) xs)
-  all-at x h e = at-drop-more (all test) xs i x h ∙ ap (λ y. test y && all test (drop (i + 1) xs)) (sym e)
+  all-at : (d : A) → i < length xs → all test (drop i xs) ≡ test (getD xs i d) && all test (drop (i + 1) xs)
+  all-at d h = at-drop-more (all test) xs i d h
 
   -- the item passes: the rest decides
-  pub all-more : (x : A) → i < length xs → x ≡ getD xs i x → true ≡ test x
+  pub all-more : (d : A) → i < length xs → true ≡ test (getD xs i d)
     → all test (drop i xs) ≡ all test xs → all test (drop (i + 1) xs) ≡ all test xs
-  all-more x h e t k = let s : all test (drop i xs) ≡ test x && all test (drop (i + 1) xs) = all-at x h e in
-    let p : test x && all test (drop (i + 1) xs) ≡ all test (drop (i + 1) xs) = ap (λ b. b && all test (drop (i + 1) xs)) (sym t) in sym p ∙ sym s ∙ k
+  all-more d h t k = ap (λ b. b && all test (drop (i + 1) xs)) t ∙ sym (all-at d h) ∙ k
 
   -- the item fails, and so does the whole
-  pub all-fails : (x : A) → i < length xs → x ≡ getD xs i x → false ≡ test x
+  pub all-fails : (d : A) → i < length xs → false ≡ test (getD xs i d)
     → all test (drop i xs) ≡ all test xs → false ≡ all test xs
-  all-fails x h e t k = let s : all test (drop i xs) ≡ test x && all test (drop (i + 1) xs) = all-at x h e in
-    let p : test x && all test (drop (i + 1) xs) ≡ false = ap (λ b. b && all test (drop (i + 1) xs)) (sym t) in sym p ∙ sym s ∙ k
+  all-fails d h t k = ap (λ b. b && all test (drop (i + 1) xs)) t ∙ sym (all-at d h) ∙ k
 
   -- nothing is left
   pub all-end : length xs ≤ i → all test (drop i xs) ≡ true

@@ -2,7 +2,7 @@
 --     Env                   the number of each variable that is bound so far
 --     agreed os vs e        e with the operands os bound to the values vs, if they agree
 --     extended h f used e   e with the head h matched by the fact f, which is not among those used
---     partners .. from      the facts, from an id on, that match the head h, each with its bindings
+--     partners h used e fs  those of the facts fs that match the head h, each with its bindings
 --     instances ..          the ways to match heads, each as ids in head order and bindings
 --     waiting n r m         the instance m of the rule r of number n, if it waits: none or one
 --     all-waiting           every instance that waits, rule by rule
@@ -15,6 +15,7 @@ use lib.Dec.{eqb}
 use lib.IntN.{ℤ, pos}
 use lib.ListN.{getD, set, replicate}
 use Rattle.std.specs.Iters.{folded}
+use Rattle.std.specs.Joined.{joined}
 use Rattle.std.specs.Options.{valueOr}
 use Rattle.std.specs.declared.option.Option.{Option}
 use Rattle.std.specs.declared.option.Option.the-variants.{Some, None}
@@ -27,12 +28,11 @@ use Rattle.records.specs.declared.parts.Head.{Head}
 use Rattle.records.specs.declared.parts.Operand.{Operand}
 use Rattle.records.specs.declared.parts.Operand.the-variants.{Constant, Variable}
 use Rattle.rules.specs.Rules.{Rule, any}
-use Rattle.store.specs.Store.{since}
 use Rattle.meaning.specs.declared.roll.Entry.{Entry}
 use Rattle.meaning.specs.declared.roll.Entry.the-variants.{HandedIn, Fired}
-use Rattle.meaning.specs.Setup.{Setup, State, Due}
+use Rattle.meaning.specs.declared.due.Due.{Due}
+use Rattle.meaning.specs.Setup.{Setup, State}
 use Rattle.meaning.specs.Instances.{padded}
-use Rattle.meaning.specs.Words.{joined}
 
 -- Bindings
 
@@ -81,13 +81,13 @@ abbrev pub partner-of : ℕ → Option Env → List Partner
 partner-of i None = []
 partner-of i (Some e) = record { id = i; env = e } ∷ []
 
-abbrev pub partners : List Fact → Head → List ℕ → Env → ℕ → List Partner
-partners live h used e from = joined (λ f. partner-of (f .id) (extended h used e f)) (since from live)
+abbrev pub partners : Head → List ℕ → Env → List Fact → List Partner
+partners h used e live = joined (λ f. partner-of (f .id) (extended h used e f)) live
 
 abbrev pub instances : List Fact → List Head → List ℕ → Env → List Match
 instances live [] used e = record { ids = used; env = e } ∷ []
 instances live (h ∷ hs) used e =
-    joined (λ p. instances live hs (used ++ p .id ∷ []) (p .env)) (partners live h used e 0)
+    joined (λ p. instances live hs (used ++ p .id ∷ []) (p .env)) (partners h used e live)
 
 -- Waiting
 

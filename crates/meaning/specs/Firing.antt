@@ -35,7 +35,8 @@ use Rattle.meaning.specs.declared.refusal.Refusal.the-variants as refusal
 use Rattle.meaning.specs.declared.refusal.Site.the-variants as site
 use Rattle.meaning.specs.declared.refusal.WorkingFault.{WorkingFault}
 use Rattle.meaning.specs.declared.roll.Entry.the-variants.{HandedIn, Fired}
-use Rattle.meaning.specs.Setup.{Setup, State, Due}
+use Rattle.meaning.specs.declared.due.Due.{Due}
+use Rattle.meaning.specs.Setup.{Setup, State}
 use Rattle.meaning.specs.Enumeration.{Env, unbound, agreed, worth}
 
 -- The bindings of an instance, from its rule and its ids

@@ -27,7 +27,8 @@ use Rattle.records.specs.declared.parts.Operand.{Operand}
 use Rattle.records.specs.declared.parts.Operand.the-variants.{Constant, Variable}
 use Rattle.rules.specs.Rules.{Rule}
 use Rattle.meaning.specs.declared.roll.Entry.the-variants.{Fired}
-use Rattle.meaning.specs.Setup.{Setup, State, Due}
+use Rattle.meaning.specs.declared.due.Due.{Due}
+use Rattle.meaning.specs.Setup.{Setup, State}
 use Rattle.meaning.specs.Words.{In, All, Both, Different, Sooner, Numbered}
 
 abbrev pub number : (ℕ → ℤ) → Operand → ℤ

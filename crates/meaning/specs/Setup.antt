@@ -3,7 +3,6 @@
 --                  answers, and the order's ranks, of a kind R of its own
 --     State        what the calls change: live facts in rising id, roll, next id, whether failed
 --     opening      the state in which a run opens
---     Due R        an instance by its name: rule number and ids in head order; with its rank
 use mathlib.Core.Bool.{Bool, false}
 use mathlib.Core.List.{List, []}
 use Prim.Native.Nat.{ℕ}
@@ -35,8 +34,3 @@ pub record State : Type 0 where
 
 abbrev pub opening : State
 opening = record { facts = []; roll = []; next = 1; failed = false }
-
-pub record Due (R : Type 0) : Type 0 where
-  pub rule : ℕ
-  pub ids : List ℕ
-  pub rank : R

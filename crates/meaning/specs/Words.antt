@@ -5,9 +5,8 @@
 --     Different xs     no item of xs comes twice
 --     Sooner xs ys     at the first place where xs and ys differ, xs has the smaller number
 --     Numbered n xs k x   x stands in xs at the place k, counted from n
---     joined f xs      the lists that f makes of the items of xs, one after the other
 use mathlib.Core.Path.{_≡_}
-use mathlib.Core.List.{List, [], _∷_, _++_}
+use mathlib.Core.List.{List, [], _∷_}
 use mathlib.Core.Logic.{_⊎_}
 use Prim.Native.Nat.{ℕ, suc, _<_}
 
@@ -37,7 +36,3 @@ Sooner (x ∷ xs) (y ∷ ys) = (x < y) ⊎ ((x ≡ y) × Sooner xs ys)
 abbrev pub Numbered : {A : Type 0} → ℕ → List A → ℕ → A → Type 0
 Numbered n [] k x = ⊥
 Numbered n (y ∷ ys) k x = ((k ≡ n) × (x ≡ y)) ⊎ Numbered (suc n) ys k x
-
-abbrev pub joined : {A B : Type 0} → (A → List B) → List A → List B
-joined f [] = []
-joined f (x ∷ xs) = f x ++ joined f xs

@@ -6,5 +6,6 @@
 //! a firing does and when it is refused). Below stand facts, hosts and rules; above, the search
 //! and the run, which are proved to do what is said here.
 
+pub mod due;
 pub mod refusal;
 pub mod roll;

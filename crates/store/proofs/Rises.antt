@@ -1,15 +1,13 @@
 -- Lists of facts in rising id: what adding at the end and taking leave, and what find gives of them.
 use mathlib.Core.Path.{_≡_, refl, sym, ap, _∙_}
 use mathlib.Core.List.{List, [], _∷_, _++_}
-use mathlib.Core.Bool.{Bool, true, false, cond, _&&_}
+use mathlib.Core.Bool.{Bool, true, false, cond}
 use Prim.Native.Nat.{ℕ, suc, _+_, _<_, _≤_}
 use native.Mathlib.Omega.{arith}
-use lib.Dec.{eqb, leb, ltb}
+use lib.Dec.{eqb, ltb}
 use lib.ListN.{length}
-use Rattle.std.specs.Options.{isSome}
-use Rattle.std.specs.declared.option.Option.{Option}
 use Rattle.std.specs.declared.option.Option.the-variants.{Some, None}
-use Rattle.std.proofs.shelf.Tests.{and-parts, and-from, ltb-true, lt-ltb, eqb-true, eqb-false, ne-eqb, eq-eqb, cond-both, cond-true, cond-false}
+use Rattle.std.proofs.shelf.Tests.{and-parts, and-from, ltb-true, lt-ltb, eqb-true, ne-eqb, eq-eqb, cond-both, cond-true, cond-false}
 use Rattle.facts.specs.declared.Fact.{Fact}
 use Rattle.store.specs.Store.{find, without, Above, Beneath, Rising, beneath, rises}
 
@@ -92,7 +90,7 @@ pub without-none : (fs : List Fact) (id : ℕ) → find id fs ≡ None → witho
 without-none [] id e = refl
 without-none (f ∷ fs) id e = go (eqb (f .id) id) refl e (without-none fs id) where
   go : (b : Bool) → eqb (f .id) id ≡ b → cond b (Some f) (find id fs) ≡ None
-    → (find id fs ≡ None → without id fs ≡ fs) → cond (eqb (f .id) id) (without id fs) (f ∷ without id fs) ≡ f ∷ fs
+      → (find id fs ≡ None → without id fs ≡ fs) → cond (eqb (f .id) id) (without id fs) (f ∷ without id fs) ≡ f ∷ fs
   go true t e rest = absurd (let z : _≡_ {A = ℕ} 0 1 = cc in omega arith)
   go false t e rest = rw t (ap (λ xs. f ∷ xs) (rest e))
 
@@ -101,9 +99,24 @@ pub find-id : (fs : List Fact) (id : ℕ) (f : Fact) → find id fs ≡ Some f �
 find-id [] id f e = absurd (let z : _≡_ {A = ℕ} 0 1 = cc in omega arith)
 find-id (g ∷ fs) id f e = go (eqb (g .id) id) refl e (find-id fs id f) where
   go : (b : Bool) → eqb (g .id) id ≡ b → cond b (Some g) (find id fs) ≡ Some f
-    → (find id fs ≡ Some f → f .id ≡ id) → f .id ≡ id
+      → (find id fs ≡ Some f → f .id ≡ id) → f .id ≡ id
   go true t e rest = let h = eqb-true (g .id) id t in let s : g ≡ f = cc in ap (λ x. x .id) (sym s) ∙ h
   go false t e rest = rest e
+
+-- and keeps to the bounds of all
+pub find-beneath-over : (fs : List Fact) (id : ℕ) (f : Fact) (low : ℕ) → Beneath low fs → find id fs ≡ Some f → low < id
+find-beneath-over [] id f low b q = absurd (let z : _≡_ {A = ℕ} 0 1 = cc in omega arith)
+find-beneath-over (g ∷ fs) id f low b q = go (eqb (g .id) id) refl q (find-beneath-over fs id f low (b .1)) where
+  go : (t : Bool) → eqb (g .id) id ≡ t → cond t (Some g) (find id fs) ≡ Some f → (find id fs ≡ Some f → low < id) → low < id
+  go true t q rest = let h = eqb-true (g .id) id t in let l = b .0 in omega arith
+  go false t q rest = rest q
+
+pub find-above-under : (fs : List Fact) (id : ℕ) (f : Fact) (high : ℕ) → Above high fs → find id fs ≡ Some f → id < high
+find-above-under [] id f high a q = absurd (let z : _≡_ {A = ℕ} 0 1 = cc in omega arith)
+find-above-under (g ∷ fs) id f high a q = go (eqb (g .id) id) refl q (find-above-under fs id f high (a .1)) where
+  go : (t : Bool) → eqb (g .id) id ≡ t → cond t (Some g) (find id fs) ≡ Some f → (find id fs ≡ Some f → id < high) → id < high
+  go true t q rest = let h = eqb-true (g .id) id t in let l = a .0 in omega arith
+  go false t q rest = rest q
 
 -- One fact taken.
 
@@ -132,7 +145,7 @@ pub without-append : (fs gs : List Fact) (id : ℕ) → without id (fs ++ gs) �
 without-append [] gs id = refl
 without-append (f ∷ fs) gs id = go (eqb (f .id) id) (without-append fs gs id) where
   go : (b : Bool) → without id (fs ++ gs) ≡ without id fs ++ without id gs
-    → cond b (without id (fs ++ gs)) (f ∷ without id (fs ++ gs)) ≡ cond b (without id fs) (f ∷ without id fs) ++ without id gs
+      → cond b (without id (fs ++ gs)) (f ∷ without id (fs ++ gs)) ≡ cond b (without id fs) (f ∷ without id fs) ++ without id gs
   go true e = e
   go false e = ap (λ xs. f ∷ xs) e
 
@@ -140,8 +153,8 @@ pub length-without : (fs : List Fact) (id : ℕ) (f : Fact) → Rising fs → fi
 length-without [] id f r e = absurd (let z : _≡_ {A = ℕ} 0 1 = cc in omega arith)
 length-without (g ∷ fs) id f r e = go (eqb (g .id) id) refl e (length-without fs id f (r .1)) where
   go : (b : Bool) → eqb (g .id) id ≡ b → cond b (Some g) (find id fs) ≡ Some f
-    → (find id fs ≡ Some f → length (without id fs) + 1 ≡ length fs)
-    → length (cond (eqb (g .id) id) (without id fs) (g ∷ without id fs)) + 1 ≡ suc (length fs)
+      → (find id fs ≡ Some f → length (without id fs) + 1 ≡ length fs)
+      → length (cond (eqb (g .id) id) (without id fs) (g ∷ without id fs)) + 1 ≡ suc (length fs)
   go true t e rest =
       let h = eqb-true (g .id) id t in
       let b : Beneath id fs = beneath-lower fs id (g .id) (omega arith) (r .0) in
@@ -152,7 +165,7 @@ pub find-without : (fs : List Fact) (id : ℕ) → find id (without id fs) ≡ N
 find-without [] id = refl
 find-without (f ∷ fs) id = go (eqb (f .id) id) refl (find-without fs id) where
   go : (b : Bool) → eqb (f .id) id ≡ b → find id (without id fs) ≡ None
-    → find id (cond b (without id fs) (f ∷ without id fs)) ≡ None
+      → find id (cond b (without id fs) (f ∷ without id fs)) ≡ None
   go true t e = e
   go false t e = cond-false (eqb (f .id) id) (Some f) (find id (without id fs)) t ∙ e
 
@@ -160,7 +173,7 @@ pub find-without-other : (fs : List Fact) (id i : ℕ) → (i ≡ id → ⊥) �
 find-without-other [] id i n = refl
 find-without-other (f ∷ fs) id i n = go (eqb (f .id) id) refl (find-without-other fs id i n) where
   go : (b : Bool) → eqb (f .id) id ≡ b → find i (without id fs) ≡ find i fs
-    → find i (cond b (without id fs) (f ∷ without id fs)) ≡ cond (eqb (f .id) i) (Some f) (find i fs)
+      → find i (cond b (without id fs) (f ∷ without id fs)) ≡ cond (eqb (f .id) i) (Some f) (find i fs)
   go true t e =
       let h = eqb-true (f .id) id t in
       e ∙ sym (cond-false (eqb (f .id) i) (Some f) (find i fs) (ne-eqb (f .id) i (λ q. n (sym q ∙ h))))

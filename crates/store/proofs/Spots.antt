@@ -12,8 +12,9 @@ use Rattle.std.specs.declared.option.Option.the-variants.{Some, None}
 use Rattle.std.proofs.shelf.Lists.{at-drop-more, at-drop-all, take-rest}
 use Rattle.std.proofs.shelf.Tests.{both-ways, and-from, and-parts, eqb-true, ltb-true, ltb-false, lt-ltb, le-ltb, lt-leb, ne-eqb, eq-eqb, cond-true, cond-false, and-left}
 use Rattle.facts.specs.declared.Fact.{Fact}
-use Rattle.store.specs.Store.{find, without, next-of, place, blank, rises, Spot, Above, Beneath, Rising}
-use Rattle.store.proofs.Rises.{rising-from-test, test-from-rising, rising-push, rising-without, beneath-lower, find-beneath, without-none}
+use Rattle.store.specs.Store.{find, without, next-of, rises, Above, Beneath, Rising}
+use Rattle.store.specs.Spots.{place, blank, Spot, Absent}
+use Rattle.store.proofs.Rises.{test-from-rising, rising-push, rising-without, beneath-lower, find-beneath, without-none}
 
 pub beneath-getD : (fs : List Fact) (low i : ℕ) (d : Fact) → Beneath low fs → i < length fs → low < getD fs i d .id
 beneath-getD [] low i d b l = absurd (omega arith)
@@ -60,7 +61,7 @@ pub above-from-place : (fs : List Fact) (id : ℕ) → place id fs ≡ length fs
 above-from-place [] id e = tt
 above-from-place (f ∷ fs) id e = go (ltb (f .id) id) refl e (above-from-place fs id) where
   go : (b : Bool) → ltb (f .id) id ≡ b → cond b (suc (place id fs)) 0 ≡ suc (length fs)
-    → (place id fs ≡ length fs → Above id fs) → (f .id < id) × Above id fs
+      → (place id fs ≡ length fs → Above id fs) → (f .id < id) × Above id fs
   go true t e rest = (ltb-true (f .id) id t, rest (omega arith))
   go false t e rest = absurd (omega arith)
 
@@ -71,46 +72,52 @@ above-from-last fs id d r l h =
     let q = place-within fs id in
     above-from-place fs id (omega arith)
 
+-- so a fact under such an id may follow
+pub rises-push : (fs : List Fact) (f : Fact) → Rising fs → Above (f .id) fs → rises (fs ++ f ∷ []) ≡ true
+rises-push fs f r a = test-from-rising (fs ++ f ∷ []) (rising-push fs f r a)
+
 -- What stands at a place.
 
 pub next-from-place : (fs : List Fact) (kind from : ℕ) → next-of kind from (drop (place from fs) fs) ≡ next-of kind from fs
 next-from-place [] kind from = refl
 next-from-place (f ∷ fs) kind from = go (ltb (f .id) from) refl (next-from-place fs kind from) where
   go : (b : Bool) → ltb (f .id) from ≡ b → next-of kind from (drop (place from fs) fs) ≡ next-of kind from fs
-    → next-of kind from (drop (cond b (suc (place from fs)) 0) (f ∷ fs)) ≡ next-of kind from (f ∷ fs)
+      → next-of kind from (drop (cond b (suc (place from fs)) 0) (f ∷ fs)) ≡ next-of kind from (f ∷ fs)
   go true t e =
       e
       ∙ sym (cond-false (leb from (f .id) && eqb (f .kind) kind) (Some (f .id)) (next-of kind from fs)
-        (and-left (leb from (f .id)) (eqb (f .kind) kind) (lt-leb from (f .id) (ltb-true (f .id) from t))))
+      (and-left (leb from (f .id)) (eqb (f .kind) kind) (lt-leb from (f .id) (ltb-true (f .id) from t))))
   go false t e = refl
 
-pub spot-from-id : (fs : List Fact) (id i : ℕ) → Rising fs → i < length fs → getD fs i blank .id ≡ id → Spot id fs i
-spot-from-id [] id i r l e = absurd (omega arith)
-spot-from-id (f ∷ fs) id zero r l e =
+pub record At (id : ℕ) (fs : List Fact) (i : ℕ) : Type 0 where
+  pub found : find id fs ≡ Some (getD fs i blank)
+  pub rest : without id fs ≡ removed fs i
+
+pub at-from-id : (fs : List Fact) (id i : ℕ) → Rising fs → i < length fs → getD fs i blank .id ≡ id → At id fs i
+at-from-id [] id i r l e = absurd (omega arith)
+at-from-id (f ∷ fs) id zero r l e =
     let t = eq-eqb (f .id) id e in
     let b = beneath-lower fs id (f .id) (omega arith) (r .0) in
     record {
-      within = l;
       found = cond-true (eqb (f .id) id) (Some f) (find id fs) t;
-      rest = cond-true (eqb (f .id) id) (without id fs) (f ∷ without id fs) t ∙ without-none fs id (find-beneath fs id b)
+      rest = cond-true (eqb (f .id) id) (without id fs) (f ∷ without id fs) t ∙ without-none fs id (find-beneath fs id b);
     }
-spot-from-id (f ∷ fs) id (suc i) r l e =
+at-from-id (f ∷ fs) id (suc i) r l e =
     let low = beneath-getD fs (f .id) i blank (r .0) (omega arith) in
     let t = ne-eqb (f .id) id (λ q. omega arith) in
-    let s = spot-from-id fs id i (r .1) (omega arith) e in
+    let s = at-from-id fs id i (r .1) (omega arith) e in
     record {
-      within = l;
       found = cond-false (eqb (f .id) id) (Some f) (find id fs) t ∙ s .found;
-      rest = cond-false (eqb (f .id) id) (without id fs) (f ∷ without id fs) t ∙ ap (λ xs. f ∷ xs) (s .rest)
+      rest = cond-false (eqb (f .id) id) (without id fs) (f ∷ without id fs) t ∙ ap (λ xs. f ∷ xs) (s .rest);
     }
 
 pub none-from-place : (fs : List Fact) (id : ℕ) (d : Fact) → Rising fs → (place id fs < length fs → getD fs (place id fs) d .id ≡ id → ⊥) → find id fs ≡ None
 none-from-place [] id d r n = refl
 none-from-place (f ∷ fs) id d r n = go (ltb (f .id) id) refl n (none-from-place fs id d (r .1)) where
   go : (b : Bool) → ltb (f .id) id ≡ b
-    → (cond b (suc (place id fs)) 0 < suc (length fs) → getD (f ∷ fs) (cond b (suc (place id fs)) 0) d .id ≡ id → ⊥)
-    → ((place id fs < length fs → getD fs (place id fs) d .id ≡ id → ⊥) → find id fs ≡ None)
-    → find id (f ∷ fs) ≡ None
+      → (cond b (suc (place id fs)) 0 < suc (length fs) → getD (f ∷ fs) (cond b (suc (place id fs)) 0) d .id ≡ id → ⊥)
+      → ((place id fs < length fs → getD fs (place id fs) d .id ≡ id → ⊥) → find id fs ≡ None)
+      → find id (f ∷ fs) ≡ None
   go true t n rest =
       let l = ltb-true (f .id) id t in
       cond-false (eqb (f .id) id) (Some f) (find id fs) (ne-eqb (f .id) id (λ q. omega arith))
@@ -125,27 +132,25 @@ none-from-place (f ∷ fs) id d r n = go (ltb (f .id) id) refl n (none-from-plac
 pub spot-from-test : (fs : List Fact) (id at : ℕ) → Rising fs → (ltb at (length fs) && eqb (getD fs at blank .id) id) ≡ true → Spot id fs at
 spot-from-test fs id at r t =
     let p = and-parts (ltb at (length fs)) (eqb (getD fs at blank .id) id) t in
-    spot-from-id fs id at r (ltb-true at (length fs) (p .0)) (eqb-true (getD fs at blank .id) id (p .1))
+    let l = ltb-true at (length fs) (p .0) in
+    let a = at-from-id fs id at r l (eqb-true (getD fs at blank .id) id (p .1)) in
+    record {
+      within = l;
+      found = a .found;
+      rest = a .rest;
+      rising = rw (← a .rest) (test-from-rising (without id fs) (rising-without fs id r));
+    }
 
-pub none-from-test : (fs : List Fact) (id at : ℕ) → Rising fs → at ≡ place id fs → (ltb at (length fs) && eqb (getD fs at blank .id) id) ≡ false → find id fs ≡ None
-none-from-test fs id at r e t =
-    none-from-place fs id blank r
-    (rw e at (λ (l : at < length fs) (q : getD fs at blank .id ≡ id). both-ways _ t (and-from _ _ (lt-ltb at (length fs) l) (eq-eqb (getD fs at blank .id) id q))))
-
--- What a push and a removal leave: ss is the list as a slice, gs what is left.
-
-pub rises-pushed : (fs ss gs : List Fact) (f : Fact) → rises fs ≡ true → ss ≡ fs → Above (f .id) ss → gs ≡ fs ++ f ∷ [] → rises gs ≡ true
-rises-pushed fs ss gs f t e a p =
-    rw (p, ← e) (test-from-rising (ss ++ f ∷ []) (rising-push ss f (rising-from-test ss (rw e t)) a))
-
-pub rises-removed : (fs ss gs : List Fact) (id i : ℕ) → rises fs ≡ true → ss ≡ fs → Spot id ss i → gs ≡ removed fs i → rises gs ≡ true
-rises-removed fs ss gs id i t e s p =
-    rw (p, ← e, ← s .rest) (test-from-rising (without id ss) (rising-without ss id (rising-from-test ss (rw e t))))
+pub absent-from-test : (fs : List Fact) (id at : ℕ) → Rising fs → at ≡ place id fs → (ltb at (length fs) && eqb (getD fs at blank .id) id) ≡ false → Absent id fs
+absent-from-test fs id at r e t =
+    let none = none-from-place fs id blank r
+    (rw e at (λ (l : at < length fs) (q : getD fs at blank .id ≡ id). both-ways _ t (and-from _ _ (lt-ltb at (length fs) l) (eq-eqb (getD fs at blank .id) id q)))) in
+    record { found = none; rest = without-none fs id none }
 
 -- what a scan from a place gives of the whole list
-pub next-scanned : (fs ss : List Fact) (kind from at : ℕ) (r : Option ℕ) → ss ≡ fs → at ≡ place from ss → r ≡ next-of kind from (take (length ss - at) (drop at ss)) → r ≡ next-of kind from fs
-next-scanned fs ss kind from at r e p q =
-    q ∙ ap (next-of kind from) (take-rest ss at) ∙ ap (λ i. next-of kind from (drop i ss)) p ∙ next-from-place ss kind from ∙ ap (next-of kind from) e
+pub next-scanned : (fs : List Fact) (kind from at : ℕ) (r : Option ℕ) → at ≡ place from fs → r ≡ next-of kind from (take (length fs - at) (drop at fs)) → r ≡ next-of kind from fs
+next-scanned fs kind from at r p q =
+    q ∙ ap (next-of kind from) (take-rest fs at) ∙ ap (λ i. next-of kind from (drop i fs)) p ∙ next-from-place fs kind from
 
 -- A scan for a kind, one step on and at the end.
 

@@ -3,23 +3,18 @@
 --     without id facts          the facts but the one with that id
 --     next-of kind from facts   the first id of that kind at or above from, or its absence:
 --                               the smallest, since ids rise
---     since id facts            the facts with ids at or above id
 --     Above id facts            id is above the id of every fact
 --     Beneath id facts          id is below the id of every fact
 --     Rising facts              ids rise along the list
 --     beneath, rises            the same two as tests
 --     Added fact facts rows ok after
---                               what adding a fact to a store of so many rows answers and leaves
---     place id facts            how many facts stand before the first id at or above id
---     blank                     what a read past the end of a list counts as
---     Spot id facts i           at place i stands the fact with that id
+--                               what adding to a store of so many rows answers and leaves
 use mathlib.Core.Path.{_≡_}
 use mathlib.Core.List.{List, [], _∷_, _++_}
-use mathlib.Core.Bool.{Bool, true, false, cond, _&&_}
-use Prim.Native.Nat.{ℕ, suc, _<_}
+use mathlib.Core.Bool.{Bool, true, cond, _&&_}
+use Prim.Native.Nat.{ℕ, _<_}
 use lib.Dec.{eqb, leb, ltb}
-use lib.ListN.{length, getD}
-use Rattle.std.specs.Holes.{removed}
+use lib.ListN.{length}
 use Rattle.std.specs.declared.option.Option.{Option}
 use Rattle.std.specs.declared.option.Option.the-variants.{Some, None}
 use Rattle.facts.specs.declared.Fact.{Fact}
@@ -36,10 +31,6 @@ abbrev pub next-of : ℕ → ℕ → List Fact → Option ℕ
 next-of kind from [] = None
 next-of kind from (f ∷ fs) =
     cond (leb from (f .id) && eqb (f .kind) kind) (Some (f .id)) (next-of kind from fs)
-
-abbrev pub since : ℕ → List Fact → List Fact
-since id [] = []
-since id (f ∷ fs) = cond (leb id (f .id)) (f ∷ since id fs) (since id fs)
 
 abbrev pub Above : ℕ → List Fact → Type 0
 Above id [] = Unit {0}
@@ -61,20 +52,9 @@ abbrev pub rises : List Fact → Bool
 rises [] = true
 rises (f ∷ fs) = beneath (f .id) fs && rises fs
 
--- Refused exactly when no row is free, if the id is above every live one. A lower id is no use of a
--- store, and its answer is left free; a refusal changes nothing, and ids rise all the same.
+-- Under an id above every live one it is refused exactly when no row is free. Under another, which
+-- no run gives, the answer is left free; certain is that a refusal leaves the list as it was, and
+-- that ids rise after it as before, so that such a fact is not put in.
 pub record Added (fact : Fact) (facts : List Fact) (rows : ℕ) (ok : Bool) (after : List Fact) : Type 0 where
-  pub answer : Above (fact .id) facts → ok ≡ ltb (length facts) rows
-  pub list : after ≡ cond ok (facts ++ fact ∷ []) facts
-
-abbrev pub place : ℕ → List Fact → ℕ
-place id [] = 0
-place id (f ∷ fs) = cond (ltb (f .id) id) (suc (place id fs)) 0
-
-abbrev pub blank : Fact
-blank = record { id = 0; kind = 0; values = [] }
-
-pub record Spot (id : ℕ) (facts : List Fact) (i : ℕ) : Type 0 where
-  pub within : i < length facts
-  pub found : find id facts ≡ Some (getD facts i blank)
-  pub rest : without id facts ≡ removed facts i
+  pub value : Above (fact .id) facts → ok ≡ ltb (length facts) rows
+  pub live : after ≡ cond ok (facts ++ fact ∷ []) facts

@@ -4,27 +4,25 @@
 //! claims none of its own.
 ghost use mathlib.Core.Path.{_≡_};
 ghost use mathlib.Core.List.{[]};
-ghost use mathlib.Core.Bool.{true, _&&_};
-ghost use Prim.Native.Nat.{ℕ, _≤_, min};
+ghost use mathlib.Core.Bool.{true};
+ghost use Prim.Native.Nat.{_≤_, min};
 ghost use lib.Dec.{ltb};
-ghost use Rattle.std.specs.Orderings.{Decides};
 ghost use Rattle.std.specs.Of.Vec.{vec-items, vec-len, vec-cap};
 ghost use Rattle.store.specs.Store.{rises};
+
 mod places;
 
+use super::MOST_ROWS;
 use super::NoRow;
 use super::Store;
 use facts::Fact;
 use facts::Id;
 use facts::Kind;
-use places::above_all;
-use places::first_of;
-use places::place_of;
+use places::may_follow;
+use places::next_in;
 use places::spot_of;
 
-/// How many rows a store has at most.
-pub const MOST_ROWS: usize = 4096;
-
+/// A store over facts that stand side by side.
 #[derive(Drop)]
 pub struct Flat {
     facts: Vec<Fact>,
@@ -76,7 +74,7 @@ pub impl Store for Flat as FlatStore {
     }
 
     fn add(&mut self, fact: Fact) -> Result<(), NoRow> {
-        if !self.has_row() || !above_all(self.facts.as_slice(), fact.id) {
+        if !self.has_row() || !may_follow(self.facts.as_slice(), fact) {
             return Err(NoRow);
         }
         self.facts.push_reserved(fact);
@@ -99,9 +97,7 @@ pub impl Store for Flat as FlatStore {
     }
 
     fn next(&self, kind: Kind, from: Id) -> Option<Id> {
-        let facts = self.facts.as_slice();
-        let at = place_of(facts, from);
-        first_of(&facts[at..], kind, from)
+        next_in(self.facts.as_slice(), kind, from)
     }
 
     fn rows(&self) -> usize {

@@ -10,11 +10,15 @@ ghost use lib.ListN.{length};
 ghost use Rattle.std.specs.Results.{isOk};
 ghost use Rattle.facts.specs.declared.Fact.{Fact as LiveFact};
 ghost use Rattle.store.specs.Store.{find, without, next-of, Rising, Added};
+
 pub mod flat;
 
 use facts::Fact;
 use facts::Id;
 use facts::Kind;
+
+/// How many rows a store has at most.
+pub const MOST_ROWS: usize = 4096;
 
 /// No row is free.
 #[derive(Clone, Copy, PartialEq, Eq, Debug)]
@@ -22,8 +26,9 @@ pub struct NoRow;
 
 /// A list of live facts in rising id, in a fixed number of rows.
 ///
-/// `sound` is what a store keeps true of itself from the first `clear` on: nothing where it stands
-/// alone, its tie to the store below where it stands on one.
+/// `sound` is what a store keeps true of itself from the first `clear` on, and what its answers
+/// stand on: nothing where it stands alone, its tie to the store below where it stands on one.
+/// A question changes nothing, nor does a refusal, and no call changes `rows`.
 pub trait Store {
     ghost sound: { Self → Type 0 };
 

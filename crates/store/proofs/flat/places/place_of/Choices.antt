@@ -1,6 +1,6 @@
 use Prim.Native.Nat.{_≤_, _-_}
 use lib.ListN.{length}
-use Rattle.store.specs.Store.{place}
+use Rattle.store.specs.Spots.{place}
 use Rattle.store.proofs.flat.places.place_of.Given as given
 
 abbrev pub Inv-loop-low : given.InvT-loop-low

@@ -1,6 +1,6 @@
 use mathlib.Core.Path.{sym}
 use Rattle.store.proofs.Rises.{rising-from-test}
-use Rattle.store.proofs.Spots.{spot-from-test, none-from-test}
+use Rattle.store.proofs.Spots.{spot-from-test, absent-from-test}
 use Rattle.store.proofs.flat.places.spot_of.Needs as need
 
 pub returns-then-stands-at : need.returns-then-stands-at
@@ -9,4 +9,4 @@ returns-then-stands-at c =
 
 pub returns-else-stands-at : need.returns-else-stands-at
 returns-else-stands-at c =
-    record { value = none-from-test _ _ _ (rising-from-test _ (c .pre)) (c .place-of-at .ensures .value) (sym (c .if-stands-at .ensures tt .value)) }
+    record { value = absent-from-test _ _ _ (rising-from-test _ (c .pre)) (c .place-of-at .ensures .value) (sym (c .if-stands-at .ensures tt .value)) }

@@ -1,0 +1,280 @@
+-- A draft keeps what it keeps of its rules, whatever record it takes.
+use mathlib.Core.Bool.{Bool, true, false, cond, _&&_, _||_}
+use mathlib.Core.List.{List, [], _∷_, _++_}
+use mathlib.Core.Path.{_≡_, refl, sym, ap, subst, _∙_}
+use Prim.Native.Nat.{ℕ, suc, _+_, _-_, _<_, _≤_}
+use native.Mathlib.Omega.{arith}
+use lib.Dec.{ltb}
+use lib.ListN.{length, getD, set, take, drop, length-set, length-append}
+use Rattle.std.proofs.shelf.Lists.{take-at, take-set, drop-all, set-split, getD-push, getD-set-same, length-push}
+use Rattle.std.proofs.shelf.Tests.{and-parts, and-from, or-cases, or-left, or-right, ltb-true, lt-ltb}
+use mathlib.Core.Logic.{⊎-elim}
+use Rattle.std.specs.Options.{okOr}
+use Rattle.std.specs.declared.option.Option.{Option}
+use Rattle.std.specs.declared.option.Option.the-variants.{Some, None}
+use Rattle.std.specs.declared.result.Result.{Result}
+use Rattle.std.specs.declared.result.Result.the-variants.{Ok, Err}
+use Rattle.facts.specs.Positions.{all, unused-clear}
+use Rattle.host.specs.declared.types.Working.{Working}
+use Rattle.host.specs.declared.types.Working.the-variants as working
+use Rattle.records.specs.Blanks.{operand-blank}
+use Rattle.records.specs.Bytes.{fields}
+use Rattle.records.specs.declared.fault.Fault.{Fault}
+use Rattle.records.specs.declared.fault.Fault.the-variants as fault
+use Rattle.records.specs.declared.kinds.RecordKind.{RecordKind}
+use Rattle.records.specs.declared.kinds.Record.{Record}
+use Rattle.records.specs.declared.kinds.Record.the-variants as record-of
+use Rattle.records.specs.declared.parts.Operand.{Operand}
+use Rattle.records.specs.declared.parts.Operand.the-variants.{Constant, Variable}
+use Rattle.records.specs.declared.parts.Head.{Head}
+use Rattle.records.specs.declared.parts.Guard.{Guard}
+use Rattle.book.specs.declared.draft.State.{State}
+use Rattle.book.specs.declared.draft.State.the-variants as state
+use Rattle.book.specs.declared.part.Part.the-variants as part
+use Rattle.book.specs.declared.rule.BodyFact.{BodyFact}
+use Rattle.book.specs.Rules.{Rule, any, head-binds, bound, guard-bound, working-bound, fact-bound, parts-bound, headed, closed}
+use Rattle.book.specs.Drafts.{Tables, and-then, told, kept-or, unless, open-rule, blank-rule, with-part, declaring, declared, body-clear, body-fact, opened, entered, follows, rules-sound}
+use Rattle.book.proofs.Records.{kind-of, fields-kind}
+use Rattle.book.proofs.States.{fact-kind-follows, begin-follows, head-follows, guard-follows, body-follows, fail-follows, end-follows, goal-follows}
+
+-- Tests over lists
+
+pub all-push : {A : Type 0} (test : A → Bool) (xs : List A) (x : A) → all test xs ≡ true → test x ≡ true → all test (xs ++ x ∷ []) ≡ true
+all-push test [] x h k = and-from (test x) true k refl
+all-push test (y ∷ ys) x h k = let p = and-parts (test y) (all test ys) h in and-from (test y) (all test (ys ++ x ∷ [])) (p .0) (all-push test ys x (p .1) k)
+
+all-weaker : {A : Type 0} (p q : A → Bool) (xs : List A) → ((x : A) → p x ≡ true → q x ≡ true) → all p xs ≡ true → all q xs ≡ true
+all-weaker p q [] w h = refl
+all-weaker p q (x ∷ xs) w h = let k = and-parts (p x) (all p xs) h in and-from (q x) (all q xs) (w x (k .0)) (all-weaker p q xs w (k .1))
+
+any-longer : {A : Type 0} (test : A → Bool) (xs ys : List A) → any test xs ≡ true → any test (xs ++ ys) ≡ true
+any-longer test [] ys h = absurd (let z : _≡_ {A = ℕ} 0 1 = cc in omega arith)
+any-longer test (x ∷ xs) ys h =
+    ⊎-elim (or-left (test x) (any test (xs ++ ys))) (λ k. or-right (test x) (any test (xs ++ ys)) (any-longer test xs ys k)) (or-cases (test x) (any test xs) h)
+
+-- A head more: what was bound stays bound
+
+module _ (hs : List Head) (h : Head) where
+  bound-more : (o : Operand) → bound hs o ≡ true → bound (hs ++ h ∷ []) o ≡ true
+  bound-more (Constant n) e = refl
+  bound-more (Variable v) e = any-longer (head-binds v) hs (h ∷ []) e
+
+  both-more : (a b : Operand) → (bound hs a && bound hs b) ≡ true → (bound (hs ++ h ∷ []) a && bound (hs ++ h ∷ []) b) ≡ true
+  both-more a b e = let p = and-parts (bound hs a) (bound hs b) e in and-from (bound (hs ++ h ∷ []) a) (bound (hs ++ h ∷ []) b) (bound-more a (p .0)) (bound-more b (p .1))
+
+  guard-more : (g : Guard) → guard-bound hs g ≡ true → guard-bound (hs ++ h ∷ []) g ≡ true
+  guard-more g e = both-more (g .left) (g .right) e
+
+  working-more : (w : Working Operand) → working-bound hs w ≡ true → working-bound (hs ++ h ∷ []) w ≡ true
+  working-more (working.Copy a) e = bound-more a e
+  working-more (working.Sum a b) e = both-more a b e
+  working-more (working.Difference a b) e = both-more a b e
+
+  fact-more : (f : BodyFact) → fact-bound hs f ≡ true → fact-bound (hs ++ h ∷ []) f ≡ true
+  fact-more f e = all-weaker (working-bound hs) (working-bound (hs ++ h ∷ [])) (f .workings) working-more e
+
+  parts-more : (gs : List Guard) (fs : List BodyFact) → (all (guard-bound hs) gs && all (fact-bound hs) fs) ≡ true
+    → (all (guard-bound (hs ++ h ∷ [])) gs && all (fact-bound (hs ++ h ∷ [])) fs) ≡ true
+  parts-more gs fs e =
+      let p = and-parts (all (guard-bound hs) gs) (all (fact-bound hs) fs) e in
+      and-from (all (guard-bound (hs ++ h ∷ [])) gs) (all (fact-bound (hs ++ h ∷ [])) fs)
+        (all-weaker (guard-bound hs) (guard-bound (hs ++ h ∷ [])) gs guard-more (p .0))
+        (all-weaker (fact-bound hs) (fact-bound (hs ++ h ∷ [])) fs fact-more (p .1))
+
+-- Results
+
+same-ok : {A E : Type 0} {x y : A} → _≡_ {A = Result A E} (Ok x) (Ok y) → x ≡ y
+same-ok e = cc
+
+from-then : {A B E : Type 0} (x : Result A E) (f : A → Result B E) (b : B) → and-then x f ≡ Ok b → (a : A) × ((x ≡ Ok a) × (f a ≡ Ok b))
+from-then (Ok a) f b e = (a, (refl, e))
+from-then (Err d) f b e = absurd (let z : _≡_ {A = ℕ} 0 1 = cc in omega arith)
+
+from-unless : {A : Type 0} (t : Bool) (f : Fault) (x : Result A Fault) (a : A) → and-then (unless t f) (λ _. x) ≡ Ok a → (t ≡ true) × (x ≡ Ok a)
+from-unless true f x a e = (refl, e)
+from-unless false f x a e = absurd (let z : _≡_ {A = ℕ} 0 1 = cc in omega arith)
+
+-- A part put into a rule
+
+abbrev well : Rule → Bool
+well r = headed r && parts-bound r
+
+abbrev Well : Rule → Type 0
+Well r = well r ≡ true
+
+abbrev more : Rule → List Head → List Guard → List BodyFact → Rule
+more r hs gs fs = record { heads = hs; guards = gs; facts = fs; fails = r .fails; band = r .band; rank = r .rank }
+
+module _ (r q : Rule) where
+  abbrev hs : List Head
+  hs = r .heads
+
+  well-parts : Well r → (headed r ≡ true) × ((all (guard-bound hs) (r .guards) ≡ true) × (all (fact-bound hs) (r .facts) ≡ true))
+  well-parts k =
+      let w = and-parts (headed r) (parts-bound r) k in
+      (w .0, and-parts (all (guard-bound hs) (r .guards)) (all (fact-bound hs) (r .facts)) (w .1))
+
+  head-step : (h : Head) → with-part (part.Head h) r ≡ Ok q → parts-bound r ≡ true → Well q
+  head-step h e k =
+      let p = from-unless (ltb (length hs) 4) fault.TooMany (Ok (more r (hs ++ h ∷ []) (r .guards) (r .facts))) q e in
+      let n : 0 < length (hs ++ h ∷ []) = simp length-push (omega arith) in
+      subst Well (same-ok (p .1)) (and-from (ltb 0 (length (hs ++ h ∷ []))) _ (lt-ltb 0 _ n) (parts-more hs h (r .guards) (r .facts) k))
+
+  guard-step : (g : Guard) → with-part (part.Guard g) r ≡ Ok q → Well r → Well q
+  guard-step g e k =
+      let grown : Rule = more r hs (r .guards ++ g ∷ []) (r .facts) in
+      let p = from-unless (guard-bound hs g) fault.Unbound (and-then (unless (ltb (length (r .guards)) 8) fault.TooMany) (λ _. Ok grown)) q e in
+      let n = from-unless (ltb (length (r .guards)) 8) fault.TooMany (Ok grown) q (p .1) in
+      let w = well-parts k in
+      subst Well (same-ok (n .1))
+        (and-from (headed r) _ (w .0) (and-from (all (guard-bound hs) (r .guards ++ g ∷ [])) _ (all-push (guard-bound hs) (r .guards) g (w .1 .0) (p .0)) (w .1 .1)))
+
+  fact-step : (f : BodyFact) → with-part (part.Fact f) r ≡ Ok q → Well r → Well q
+  fact-step f e k =
+      let grown : Rule = more r hs (r .guards) (r .facts ++ f ∷ []) in
+      let p = from-unless (fact-bound hs f) fault.Unbound (and-then (unless (ltb (length (r .facts)) 4) fault.TooMany) (λ _. Ok grown)) q e in
+      let n = from-unless (ltb (length (r .facts)) 4) fault.TooMany (Ok grown) q (p .1) in
+      let w = well-parts k in
+      subst Well (same-ok (n .1))
+        (and-from (headed r) _ (w .0) (and-from (all (guard-bound hs) (r .guards)) _ (w .1 .0) (all-push (fact-bound hs) (r .facts) f (w .1 .1) (p .0))))
+
+  fail-step : with-part part.Fail r ≡ Ok q → Well r → Well q
+  fail-step e k = subst Well (same-ok e) k
+
+  end-step : (b : ℕ) (o : Operand) → with-part (part.End b o) r ≡ Ok q → Well r → closed q ≡ true
+  end-step b o e k =
+      let done : Rule = record { heads = hs; guards = r .guards; facts = r .facts; fails = r .fails; band = b; rank = o } in
+      let p = from-unless (bound hs o) fault.Unbound (Ok done) q e in
+      let w = and-parts (headed r) (parts-bound r) k in
+      subst (λ (q : Rule). closed q ≡ true) (same-ok (p .1)) (and-from (headed r) _ (w .0) (and-from (parts-bound r) _ (w .1) (p .0)))
+
+-- The open rule changed in its place
+
+abbrev before : List Rule → List Rule
+before rs = take (length rs - 1) rs
+
+abbrev changed : List Rule → Rule → List Rule
+changed rs q = set rs (length rs - 1) q
+
+opened-parts : (f : Rule → Result Rule Fault) (a b : Tables) → opened a f ≡ Ok b
+  → (q : Rule) × ((0 < length (a .rules)) × ((f (open-rule (a .rules)) ≡ Ok q) × (changed (a .rules) q ≡ b .rules)))
+opened-parts f a b e =
+    let put : Rule → Result Tables Fault = λ q. Ok (record { kinds = a .kinds; rules = changed (a .rules) q }) in
+    let p = from-unless (ltb 0 (length (a .rules))) fault.MayNotFollow (and-then (f (open-rule (a .rules))) put) b e in
+    let n = from-then (f (open-rule (a .rules))) put b (p .1) in
+    (n .0, (ltb-true 0 _ (p .0), (n .1 .0, ap (λ (t : Tables). t .rules) (same-ok (n .1 .1)))))
+
+module _ (rs : List Rule) (q : Rule) (n : 0 < length rs) where
+  before-changed : before (changed rs q) ≡ before rs
+  before-changed = ap (λ k. take (k - 1) (changed rs q)) (length-set rs (length rs - 1) q) ∙ take-set rs (length rs - 1) q
+
+  open-changed : open-rule (changed rs q) ≡ q
+  open-changed =
+      let l : length rs - 1 < length rs = omega arith in
+      ap (λ k. getD (changed rs q) (k - 1) blank-rule) (length-set rs (length rs - 1) q) ∙ getD-set-same rs (length rs - 1) q blank-rule l
+
+  changed-push : changed rs q ≡ before rs ++ q ∷ []
+  changed-push =
+      let l : length rs - 1 < length rs = omega arith in
+      let m : length rs ≤ suc (length rs - 1) = omega arith in
+      set-split rs (length rs - 1) q l ∙ ap (λ ys. before rs ++ q ∷ ys) (drop-all (suc (length rs - 1)) rs m)
+
+module _ (f : Rule → Result Rule Fault) (was : Rule → Bool) (a b : Tables) (e : opened a f ≡ Ok b) (h : (all closed (before (a .rules)) && was (open-rule (a .rules))) ≡ true) where
+  change-open : (is : Rule → Bool) → ((r q : Rule) → f r ≡ Ok q → was r ≡ true → is q ≡ true)
+    → (all closed (before (b .rules)) && is (open-rule (b .rules))) ≡ true
+  change-open is step =
+      let p = opened-parts f a b e in
+      let k = and-parts (all closed (before (a .rules))) (was (open-rule (a .rules))) h in
+      subst (λ (rs : List Rule). (all closed (before rs) && is (open-rule rs)) ≡ true) (p .1 .1 .1)
+        (and-from (all closed (before (changed (a .rules) (p .0)))) _
+          (ap (all closed) (before-changed (a .rules) (p .0) (p .1 .0)) ∙ k .0)
+          (ap is (open-changed (a .rules) (p .0) (p .1 .0)) ∙ step _ (p .0) (p .1 .1 .0) (k .1)))
+
+  change-end : ((r q : Rule) → f r ≡ Ok q → was r ≡ true → closed q ≡ true) → (all closed (b .rules) && true) ≡ true
+  change-end step =
+      let p = opened-parts f a b e in
+      let k = and-parts (all closed (before (a .rules))) (was (open-rule (a .rules))) h in
+      subst (λ (rs : List Rule). (all closed rs && true) ≡ true) (p .1 .1 .1)
+        (and-from (all closed (changed (a .rules) (p .0))) true
+          (ap (all closed) (changed-push (a .rules) (p .0) (p .1 .0)) ∙ all-push closed (before (a .rules)) (p .0) (k .0) (step _ (p .0) (p .1 .1 .0) (k .1)))
+          refl)
+
+-- Each record
+
+module _ (a b : Tables) where
+  abbrev Keeps : State → State → Type 0
+  Keeps s t = rules-sound s (a .rules) ≡ true → rules-sound t (b .rules) ≡ true
+
+  -- the open rule is well, before and after
+  abbrev Stays : Type 0
+  Stays = (all closed (before (a .rules)) && well (open-rule (a .rules))) ≡ true → (all closed (before (b .rules)) && well (open-rule (b .rules))) ≡ true
+
+  begin-keeps : entered a record-of.RuleBegins ≡ Ok b → Keeps state.Between state.Begun
+  begin-keeps e h =
+      let p = from-unless (ltb (length (a .rules)) 64) fault.TooMany (Ok (record { kinds = a .kinds; rules = a .rules ++ blank-rule ∷ [] })) b e in
+      let k = and-parts (all closed (a .rules)) true h in
+      let m : length (a .rules ++ blank-rule ∷ []) - 1 ≡ length (a .rules) = simp length-push (omega arith) in
+      subst (λ (rs : List Rule). (all closed (before rs) && parts-bound (open-rule rs)) ≡ true) (ap (λ (t : Tables). t .rules) (same-ok (p .1)))
+        (and-from (all closed (before (a .rules ++ blank-rule ∷ []))) _
+          (ap (λ i. all closed (take i (a .rules ++ blank-rule ∷ []))) m ∙ ap (all closed) (take-at (a .rules) (blank-rule ∷ []) _ refl) ∙ k .0)
+          (ap (λ i. parts-bound (getD (a .rules ++ blank-rule ∷ []) i blank-rule)) m ∙ ap parts-bound (getD-push (a .rules) blank-rule blank-rule _ refl)))
+
+  pub entered-keeps : (r : Record) (s t : State) → follows s (kind-of r) ≡ Some t → entered a r ≡ Ok b → Keeps s t
+  entered-keeps (record-of.FactKind n k) s t f e =
+      let p = from-then (declaring (a .kinds) n k) (λ ks. Ok (record { kinds = ks; rules = a .rules })) b e in
+      fact-kind-follows Keeps t s f (λ h. subst (λ (rs : List Rule). (all closed rs && true) ≡ true) (ap (λ (t : Tables). t .rules) (same-ok (p .1 .1))) h)
+  entered-keeps record-of.RuleBegins s t f e = begin-follows Keeps t s f (begin-keeps e)
+  entered-keeps (record-of.Head h) s t f e =
+      let put : Result Tables Fault = opened a (with-part (part.Head h)) in
+      let p = from-then (declared (a .kinds) (h .kind)) (λ n. and-then (unless (unused-clear operand-blank n (h .operands)) fault.UnusedFilled) (λ _. put)) b e in
+      let o = from-unless (unused-clear operand-blank (p .0) (h .operands)) fault.UnusedFilled put b (p .1 .1) in
+      head-follows Keeps t s f
+        (λ k. change-open (with-part (part.Head h)) parts-bound a b (o .1) k well (λ r q. head-step r q h))
+        (λ k. change-open (with-part (part.Head h)) well a b (o .1) k well (λ r q d w. head-step r q h d (and-parts (headed r) (parts-bound r) w .1)))
+  entered-keeps (record-of.Guard g) s t f e =
+      let c : Stays = λ k. change-open (with-part (part.Guard g)) well a b e k well (λ r q. guard-step r q g) in
+      guard-follows Keeps t s f c c
+  entered-keeps (record-of.BodyFact d) s t f e =
+      let put : ℕ → Result Tables Fault = λ n. opened a (with-part (part.Fact (body-fact n d))) in
+      let p = from-then (declared (a .kinds) (d .kind)) (λ n. and-then (unless (body-clear n (d .workings)) fault.UnusedFilled) (λ _. put n)) b e in
+      let o = from-unless (body-clear (p .0) (d .workings)) fault.UnusedFilled (put (p .0)) b (p .1 .1) in
+      let c : Stays = λ k. change-open (with-part (part.Fact (body-fact (p .0) d))) well a b (o .1) k well (λ r q. fact-step r q (body-fact (p .0) d)) in
+      body-follows Keeps t s f c c c
+  entered-keeps record-of.Fail s t f e =
+      let c : Stays = λ k. change-open (with-part part.Fail) well a b e k well fail-step in
+      fail-follows Keeps t s f c c
+  entered-keeps (record-of.RuleEnds n o) s t f e =
+      let c : (all closed (before (a .rules)) && well (open-rule (a .rules))) ≡ true → (all closed (b .rules) && true) ≡ true =
+        λ k. change-end (with-part (part.End n o)) well a b e k (λ r q. end-step r q n o) in
+      end-follows Keeps t s f c c c c
+  entered-keeps (record-of.GoalFact g) s t f e = goal-follows Keeps t s f
+
+-- A record entered, or refused
+
+pub entered-ok : {A E : Type 0} (x : Result A E) (y : A) (u : Unit {0}) → Ok u ≡ told x → x ≡ Ok (kept-or x y)
+entered-ok (Ok a) y u e = refl
+entered-ok (Err d) y u e = absurd (let z : _≡_ {A = ℕ} 0 1 = cc in omega arith)
+
+pub entered-err : {A E : Type 0} (x : Result A E) (d : E) → Err d ≡ told x → x ≡ Err d
+entered-err (Ok a) d e = absurd (let z : _≡_ {A = ℕ} 0 1 = cc in omega arith)
+entered-err (Err c) d e = cc
+
+from-ok-or : {A E : Type 0} (o : Option A) (d : E) (a : A) → Ok a ≡ okOr o d → o ≡ Some a
+from-ok-or (Some x) d a e = cc
+from-ok-or None d a e = absurd (let z : _≡_ {A = ℕ} 0 1 = cc in omega arith)
+
+-- what a draft keeps, it keeps at a record refused
+pub refused-sound : (s : State) (r : Record) (a b : Tables) (d : Fault) → Err d ≡ told (entered a r) → b ≡ kept-or (entered a r) a
+  → rules-sound s (a .rules) ≡ true → rules-sound s (b .rules) ≡ true
+refused-sound s r a b d e k h =
+    let same : b ≡ a = k ∙ ap (λ x. kept-or x a) (entered-err (entered a r) d e) in
+    subst (λ (t : Tables). rules-sound s (t .rules) ≡ true) (sym same) h
+
+-- and at a record taken
+pub taken-sound : (s t : State) (k : RecordKind) (bs : List ℕ) (r : Record) (a b : Tables) (u : Unit {0})
+  → Ok t ≡ okOr (follows s k) fault.MayNotFollow → Ok r ≡ fields k bs → Ok u ≡ told (entered a r) → b ≡ kept-or (entered a r) a
+  → rules-sound s (a .rules) ≡ true → rules-sound t (b .rules) ≡ true
+taken-sound s t k bs r a b u f g e j h =
+    let may : follows s k ≡ Some t = from-ok-or (follows s k) fault.MayNotFollow t f in
+    let same : kind-of r ≡ k = fields-kind k bs r (sym g) in
+    entered-keeps a b r s t (ap (follows s) same ∙ may) (entered-ok (entered a r) a u e ∙ ap Ok (sym j)) h
