@@ -1,4 +1,3 @@
-pub mod Finds
 pub mod OpenRules
 pub mod Records
 pub mod States

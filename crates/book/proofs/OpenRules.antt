@@ -20,9 +20,10 @@ use Rattle.records.specs.declared.fault.Fault.{Fault}
 use Rattle.records.specs.declared.fault.Fault.the-variants as fault
 use Rattle.records.specs.declared.kinds.Record.the-variants as record-of
 use Rattle.book.specs.declared.draft.Tables.{Tables as TablesData}
-use Rattle.book.specs.declared.rule.Rule.{Rule as RuleData}
-use Rattle.book.specs.Rules.{Rule, rule-of}
-use Rattle.book.specs.Drafts.{Tables, and-then, told, kept-or, unless, blank-rule, open-rule, opened, entered}
+use Rattle.rules.specs.declared.Rule.{Rule as RuleData}
+use Rattle.rules.specs.Rules.{Rule, rule-of, blank-rule}
+use Rattle.rules.specs.Results.{and-then, told, kept-or, unless}
+use Rattle.book.specs.Drafts.{Tables, open-rule, opened, entered}
 use Rattle.book.specs.Held.{tables-of, with-last}
 
 module _ (t : TablesData) where

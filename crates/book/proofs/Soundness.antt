@@ -1,13 +1,13 @@
 -- A draft keeps what it keeps of its rules, whatever record it takes.
 use mathlib.Core.Bool.{Bool, true, false, cond, _&&_, _||_}
-use mathlib.Core.List.{List, [], _∷_, _++_}
+use mathlib.Core.List.{List, [], _∷_, _++_, map}
 use mathlib.Core.Path.{_≡_, refl, sym, ap, subst, _∙_}
 use Prim.Native.Nat.{ℕ, suc, _+_, _-_, _<_, _≤_}
 use native.Mathlib.Omega.{arith}
-use lib.Dec.{ltb}
-use lib.ListN.{length, getD, set, take, drop, length-set, length-append}
-use Rattle.std.proofs.shelf.Lists.{take-at, take-set, drop-all, set-split, getD-push, getD-set-same, length-push}
-use Rattle.std.proofs.shelf.Tests.{and-parts, and-from, or-cases, or-left, or-right, ltb-true, lt-ltb}
+use lib.Dec.{leb, ltb}
+use lib.ListN.{length, getD, set, take, drop, length-set, length-map}
+use Rattle.std.proofs.shelf.Lists.{take-at, take-set, drop-all, set-split, getD-push, getD-set-same, length-push, take-map}
+use Rattle.std.proofs.shelf.Tests.{and-parts, and-from, or-cases, or-left, or-right, ltb-true, lt-ltb, le-leb}
 use mathlib.Core.Logic.{⊎-elim}
 use Rattle.std.specs.Options.{okOr}
 use Rattle.std.specs.declared.option.Option.{Option}
@@ -31,10 +31,12 @@ use Rattle.records.specs.declared.parts.Guard.{Guard}
 use Rattle.book.specs.declared.draft.State.{State}
 use Rattle.book.specs.declared.draft.State.the-variants as state
 use Rattle.book.specs.declared.part.Part.the-variants as part
-use Rattle.book.specs.declared.rule.BodyFact.{BodyFact}
-use Rattle.book.specs.Rules.{Rule, any, head-binds, bound, guard-bound, working-bound, fact-bound, parts-bound, headed, closed}
-use Rattle.book.specs.Drafts.{Tables, and-then, told, kept-or, unless, open-rule, blank-rule, with-part, declaring, declared, body-clear, body-fact, opened, entered, follows, rules-sound}
-use Rattle.book.proofs.Records.{kind-of, fields-kind}
+use Rattle.rules.specs.declared.BodyFact.{BodyFact}
+use Rattle.rules.specs.declared.Rule.{Rule as RuleData}
+use Rattle.rules.specs.Rules.{Rule, rule-of, any, head-binds, bound, guard-bound, working-bound, fact-bound, parts-bound, headed, closed, head-in-range, small, blank-rule}
+use Rattle.rules.specs.Results.{and-then, told, kept-or, unless}
+use Rattle.book.specs.Drafts.{Tables, open-rule, with-part, declaring, declared, body-clear, body-fact, opened, entered, follows, is-open, ended, sound, open-sound, rules-sound}
+use Rattle.book.proofs.Records.{kind-of, ranged, Is, fields-is}
 use Rattle.book.proofs.States.{fact-kind-follows, begin-follows, head-follows, guard-follows, body-follows, fail-follows, end-follows, goal-follows}
 
 -- Tests over lists
@@ -96,8 +98,11 @@ from-unless false f x a e = absurd (let z : _≡_ {A = ℕ} 0 1 = cc in omega ar
 
 -- A part put into a rule
 
+abbrev begun : Rule → Bool
+begun r = parts-bound r && small r
+
 abbrev well : Rule → Bool
-well r = headed r && parts-bound r
+well r = headed r && begun r
 
 abbrev Well : Rule → Type 0
 Well r = well r ≡ true
@@ -105,48 +110,66 @@ Well r = well r ≡ true
 abbrev more : Rule → List Head → List Guard → List BodyFact → Rule
 more r hs gs fs = record { heads = hs; guards = gs; facts = fs; fails = r .fails; band = r .band; rank = r .rank }
 
+well-begun : (r : Rule) → Well r → begun r ≡ true
+well-begun r k = and-parts (headed r) (begun r) k .1
+
+well-from : (r : Rule) → headed r ≡ true → all (guard-bound (r .heads)) (r .guards) ≡ true → all (fact-bound (r .heads)) (r .facts) ≡ true → small r ≡ true → Well r
+well-from r h g f s =
+    and-from (headed r) (begun r) h
+      (and-from (parts-bound r) (small r) (and-from (all (guard-bound (r .heads)) (r .guards)) (all (fact-bound (r .heads)) (r .facts)) g f) s)
+
 module _ (r q : Rule) where
   abbrev hs : List Head
   hs = r .heads
 
-  well-parts : Well r → (headed r ≡ true) × ((all (guard-bound hs) (r .guards) ≡ true) × (all (fact-bound hs) (r .facts) ≡ true))
-  well-parts k =
-      let w = and-parts (headed r) (parts-bound r) k in
-      (w .0, and-parts (all (guard-bound hs) (r .guards)) (all (fact-bound hs) (r .facts)) (w .1))
+  begun-parts : begun r ≡ true → (all (guard-bound hs) (r .guards) ≡ true) × ((all (fact-bound hs) (r .facts) ≡ true) × (small r ≡ true))
+  begun-parts k =
+      let w = and-parts (parts-bound r) (small r) k in
+      let v = and-parts (all (guard-bound hs) (r .guards)) (all (fact-bound hs) (r .facts)) (w .0) in
+      (v .0, (v .1, w .1))
 
-  head-step : (h : Head) → with-part (part.Head h) r ≡ Ok q → parts-bound r ≡ true → Well q
-  head-step h e k =
+  head-step : (h : Head) → head-in-range h ≡ true → with-part (part.Head h) r ≡ Ok q → begun r ≡ true → Well q
+  head-step h i e k =
       let p = from-unless (ltb (length hs) 4) fault.TooMany (Ok (more r (hs ++ h ∷ []) (r .guards) (r .facts))) q e in
       let n : 0 < length (hs ++ h ∷ []) = simp length-push (omega arith) in
-      subst Well (same-ok (p .1)) (and-from (ltb 0 (length (hs ++ h ∷ []))) _ (lt-ltb 0 _ n) (parts-more hs h (r .guards) (r .facts) k))
+      let l : length hs < 4 = ltb-true (length hs) 4 (p .0) in
+      let m : length (hs ++ h ∷ []) ≤ 4 = simp length-push (omega arith) in
+      let w = and-parts (parts-bound r) (small r) k in
+      let s = and-parts (leb (length hs) 4) (all head-in-range hs) (w .1) in
+      subst Well (same-ok (p .1))
+        (and-from (ltb 0 (length (hs ++ h ∷ []))) _ (lt-ltb 0 _ n)
+          (and-from (parts-bound (more r (hs ++ h ∷ []) (r .guards) (r .facts))) _ (parts-more hs h (r .guards) (r .facts) (w .0))
+            (and-from (leb (length (hs ++ h ∷ [])) 4) _ (le-leb _ 4 m) (all-push head-in-range hs h (s .1) i))))
 
   guard-step : (g : Guard) → with-part (part.Guard g) r ≡ Ok q → Well r → Well q
   guard-step g e k =
       let grown : Rule = more r hs (r .guards ++ g ∷ []) (r .facts) in
       let p = from-unless (guard-bound hs g) fault.Unbound (and-then (unless (ltb (length (r .guards)) 8) fault.TooMany) (λ _. Ok grown)) q e in
       let n = from-unless (ltb (length (r .guards)) 8) fault.TooMany (Ok grown) q (p .1) in
-      let w = well-parts k in
-      subst Well (same-ok (n .1))
-        (and-from (headed r) _ (w .0) (and-from (all (guard-bound hs) (r .guards ++ g ∷ [])) _ (all-push (guard-bound hs) (r .guards) g (w .1 .0) (p .0)) (w .1 .1)))
+      let h = and-parts (headed r) (begun r) k in
+      let w = begun-parts (h .1) in
+      subst Well (same-ok (n .1)) (well-from grown (h .0) (all-push (guard-bound hs) (r .guards) g (w .0) (p .0)) (w .1 .0) (w .1 .1))
 
   fact-step : (f : BodyFact) → with-part (part.Fact f) r ≡ Ok q → Well r → Well q
   fact-step f e k =
       let grown : Rule = more r hs (r .guards) (r .facts ++ f ∷ []) in
       let p = from-unless (fact-bound hs f) fault.Unbound (and-then (unless (ltb (length (r .facts)) 4) fault.TooMany) (λ _. Ok grown)) q e in
       let n = from-unless (ltb (length (r .facts)) 4) fault.TooMany (Ok grown) q (p .1) in
-      let w = well-parts k in
-      subst Well (same-ok (n .1))
-        (and-from (headed r) _ (w .0) (and-from (all (guard-bound hs) (r .guards)) _ (w .1 .0) (all-push (fact-bound hs) (r .facts) f (w .1 .1) (p .0))))
+      let h = and-parts (headed r) (begun r) k in
+      let w = begun-parts (h .1) in
+      subst Well (same-ok (n .1)) (well-from grown (h .0) (w .0) (all-push (fact-bound hs) (r .facts) f (w .1 .0) (p .0)) (w .1 .1))
 
   fail-step : with-part part.Fail r ≡ Ok q → Well r → Well q
   fail-step e k = subst Well (same-ok e) k
 
-  end-step : (b : ℕ) (o : Operand) → with-part (part.End b o) r ≡ Ok q → Well r → closed q ≡ true
+  end-step : (b : ℕ) (o : Operand) → with-part (part.End b o) r ≡ Ok q → Well r → sound q ≡ true
   end-step b o e k =
       let done : Rule = record { heads = hs; guards = r .guards; facts = r .facts; fails = r .fails; band = b; rank = o } in
       let p = from-unless (bound hs o) fault.Unbound (Ok done) q e in
-      let w = and-parts (headed r) (parts-bound r) k in
-      subst (λ (q : Rule). closed q ≡ true) (same-ok (p .1)) (and-from (headed r) _ (w .0) (and-from (parts-bound r) _ (w .1) (p .0)))
+      let h = and-parts (headed r) (begun r) k in
+      let w = and-parts (parts-bound r) (small r) (h .1) in
+      subst (λ (q : Rule). sound q ≡ true) (same-ok (p .1))
+        (and-from (closed done) (small done) (and-from (headed r) _ (h .0) (and-from (parts-bound r) _ (w .0) (p .0))) (w .1))
 
 -- The open rule changed in its place
 
@@ -179,24 +202,24 @@ module _ (rs : List Rule) (q : Rule) (n : 0 < length rs) where
       let m : length rs ≤ suc (length rs - 1) = omega arith in
       set-split rs (length rs - 1) q l ∙ ap (λ ys. before rs ++ q ∷ ys) (drop-all (suc (length rs - 1)) rs m)
 
-module _ (f : Rule → Result Rule Fault) (was : Rule → Bool) (a b : Tables) (e : opened a f ≡ Ok b) (h : (all closed (before (a .rules)) && was (open-rule (a .rules))) ≡ true) where
+module _ (f : Rule → Result Rule Fault) (was : Rule → Bool) (a b : Tables) (e : opened a f ≡ Ok b) (h : (all sound (before (a .rules)) && was (open-rule (a .rules))) ≡ true) where
   change-open : (is : Rule → Bool) → ((r q : Rule) → f r ≡ Ok q → was r ≡ true → is q ≡ true)
-    → (all closed (before (b .rules)) && is (open-rule (b .rules))) ≡ true
+    → (all sound (before (b .rules)) && is (open-rule (b .rules))) ≡ true
   change-open is step =
       let p = opened-parts f a b e in
-      let k = and-parts (all closed (before (a .rules))) (was (open-rule (a .rules))) h in
-      subst (λ (rs : List Rule). (all closed (before rs) && is (open-rule rs)) ≡ true) (p .1 .1 .1)
-        (and-from (all closed (before (changed (a .rules) (p .0)))) _
-          (ap (all closed) (before-changed (a .rules) (p .0) (p .1 .0)) ∙ k .0)
+      let k = and-parts (all sound (before (a .rules))) (was (open-rule (a .rules))) h in
+      subst (λ (rs : List Rule). (all sound (before rs) && is (open-rule rs)) ≡ true) (p .1 .1 .1)
+        (and-from (all sound (before (changed (a .rules) (p .0)))) _
+          (ap (all sound) (before-changed (a .rules) (p .0) (p .1 .0)) ∙ k .0)
           (ap is (open-changed (a .rules) (p .0) (p .1 .0)) ∙ step _ (p .0) (p .1 .1 .0) (k .1)))
 
-  change-end : ((r q : Rule) → f r ≡ Ok q → was r ≡ true → closed q ≡ true) → (all closed (b .rules) && true) ≡ true
+  change-end : ((r q : Rule) → f r ≡ Ok q → was r ≡ true → sound q ≡ true) → (all sound (b .rules) && true) ≡ true
   change-end step =
       let p = opened-parts f a b e in
-      let k = and-parts (all closed (before (a .rules))) (was (open-rule (a .rules))) h in
-      subst (λ (rs : List Rule). (all closed rs && true) ≡ true) (p .1 .1 .1)
-        (and-from (all closed (changed (a .rules) (p .0))) true
-          (ap (all closed) (changed-push (a .rules) (p .0) (p .1 .0)) ∙ all-push closed (before (a .rules)) (p .0) (k .0) (step _ (p .0) (p .1 .1 .0) (k .1)))
+      let k = and-parts (all sound (before (a .rules))) (was (open-rule (a .rules))) h in
+      subst (λ (rs : List Rule). (all sound rs && true) ≡ true) (p .1 .1 .1)
+        (and-from (all sound (changed (a .rules) (p .0))) true
+          (ap (all sound) (changed-push (a .rules) (p .0) (p .1 .0)) ∙ all-push sound (before (a .rules)) (p .0) (k .0) (step _ (p .0) (p .1 .1 .0) (k .1)))
           refl)
 
 -- Each record
@@ -207,47 +230,47 @@ module _ (a b : Tables) where
 
   -- the open rule is well, before and after
   abbrev Stays : Type 0
-  Stays = (all closed (before (a .rules)) && well (open-rule (a .rules))) ≡ true → (all closed (before (b .rules)) && well (open-rule (b .rules))) ≡ true
+  Stays = (all sound (before (a .rules)) && well (open-rule (a .rules))) ≡ true → (all sound (before (b .rules)) && well (open-rule (b .rules))) ≡ true
 
   begin-keeps : entered a record-of.RuleBegins ≡ Ok b → Keeps state.Between state.Begun
   begin-keeps e h =
       let p = from-unless (ltb (length (a .rules)) 64) fault.TooMany (Ok (record { kinds = a .kinds; rules = a .rules ++ blank-rule ∷ [] })) b e in
-      let k = and-parts (all closed (a .rules)) true h in
+      let k = and-parts (all sound (a .rules)) true h in
       let m : length (a .rules ++ blank-rule ∷ []) - 1 ≡ length (a .rules) = simp length-push (omega arith) in
-      subst (λ (rs : List Rule). (all closed (before rs) && parts-bound (open-rule rs)) ≡ true) (ap (λ (t : Tables). t .rules) (same-ok (p .1)))
-        (and-from (all closed (before (a .rules ++ blank-rule ∷ []))) _
-          (ap (λ i. all closed (take i (a .rules ++ blank-rule ∷ []))) m ∙ ap (all closed) (take-at (a .rules) (blank-rule ∷ []) _ refl) ∙ k .0)
-          (ap (λ i. parts-bound (getD (a .rules ++ blank-rule ∷ []) i blank-rule)) m ∙ ap parts-bound (getD-push (a .rules) blank-rule blank-rule _ refl)))
+      subst (λ (rs : List Rule). (all sound (before rs) && begun (open-rule rs)) ≡ true) (ap (λ (t : Tables). t .rules) (same-ok (p .1)))
+        (and-from (all sound (before (a .rules ++ blank-rule ∷ []))) _
+          (ap (λ i. all sound (take i (a .rules ++ blank-rule ∷ []))) m ∙ ap (all sound) (take-at (a .rules) (blank-rule ∷ []) _ refl) ∙ k .0)
+          (ap (λ i. begun (getD (a .rules ++ blank-rule ∷ []) i blank-rule)) m ∙ ap begun (getD-push (a .rules) blank-rule blank-rule _ refl)))
 
-  pub entered-keeps : (r : Record) (s t : State) → follows s (kind-of r) ≡ Some t → entered a r ≡ Ok b → Keeps s t
-  entered-keeps (record-of.FactKind n k) s t f e =
+  pub entered-keeps : (r : Record) (s t : State) → ranged r ≡ true → follows s (kind-of r) ≡ Some t → entered a r ≡ Ok b → Keeps s t
+  entered-keeps (record-of.FactKind n k) s t i f e =
       let p = from-then (declaring (a .kinds) n k) (λ ks. Ok (record { kinds = ks; rules = a .rules })) b e in
-      fact-kind-follows Keeps t s f (λ h. subst (λ (rs : List Rule). (all closed rs && true) ≡ true) (ap (λ (t : Tables). t .rules) (same-ok (p .1 .1))) h)
-  entered-keeps record-of.RuleBegins s t f e = begin-follows Keeps t s f (begin-keeps e)
-  entered-keeps (record-of.Head h) s t f e =
+      fact-kind-follows Keeps t s f (λ h. subst (λ (rs : List Rule). (all sound rs && true) ≡ true) (ap (λ (t : Tables). t .rules) (same-ok (p .1 .1))) h)
+  entered-keeps record-of.RuleBegins s t i f e = begin-follows Keeps t s f (begin-keeps e)
+  entered-keeps (record-of.Head h) s t i f e =
       let put : Result Tables Fault = opened a (with-part (part.Head h)) in
       let p = from-then (declared (a .kinds) (h .kind)) (λ n. and-then (unless (unused-clear operand-blank n (h .operands)) fault.UnusedFilled) (λ _. put)) b e in
       let o = from-unless (unused-clear operand-blank (p .0) (h .operands)) fault.UnusedFilled put b (p .1 .1) in
       head-follows Keeps t s f
-        (λ k. change-open (with-part (part.Head h)) parts-bound a b (o .1) k well (λ r q. head-step r q h))
-        (λ k. change-open (with-part (part.Head h)) well a b (o .1) k well (λ r q d w. head-step r q h d (and-parts (headed r) (parts-bound r) w .1)))
-  entered-keeps (record-of.Guard g) s t f e =
+        (λ k. change-open (with-part (part.Head h)) begun a b (o .1) k well (λ r q. head-step r q h i))
+        (λ k. change-open (with-part (part.Head h)) well a b (o .1) k well (λ r q d w. head-step r q h i d (well-begun r w)))
+  entered-keeps (record-of.Guard g) s t i f e =
       let c : Stays = λ k. change-open (with-part (part.Guard g)) well a b e k well (λ r q. guard-step r q g) in
       guard-follows Keeps t s f c c
-  entered-keeps (record-of.BodyFact d) s t f e =
+  entered-keeps (record-of.BodyFact d) s t i f e =
       let put : ℕ → Result Tables Fault = λ n. opened a (with-part (part.Fact (body-fact n d))) in
       let p = from-then (declared (a .kinds) (d .kind)) (λ n. and-then (unless (body-clear n (d .workings)) fault.UnusedFilled) (λ _. put n)) b e in
       let o = from-unless (body-clear (p .0) (d .workings)) fault.UnusedFilled (put (p .0)) b (p .1 .1) in
       let c : Stays = λ k. change-open (with-part (part.Fact (body-fact (p .0) d))) well a b (o .1) k well (λ r q. fact-step r q (body-fact (p .0) d)) in
       body-follows Keeps t s f c c c
-  entered-keeps record-of.Fail s t f e =
+  entered-keeps record-of.Fail s t i f e =
       let c : Stays = λ k. change-open (with-part part.Fail) well a b e k well fail-step in
       fail-follows Keeps t s f c c
-  entered-keeps (record-of.RuleEnds n o) s t f e =
-      let c : (all closed (before (a .rules)) && well (open-rule (a .rules))) ≡ true → (all closed (b .rules) && true) ≡ true =
+  entered-keeps (record-of.RuleEnds n o) s t i f e =
+      let c : (all sound (before (a .rules)) && well (open-rule (a .rules))) ≡ true → (all sound (b .rules) && true) ≡ true =
         λ k. change-end (with-part (part.End n o)) well a b e k (λ r q. end-step r q n o) in
       end-follows Keeps t s f c c c c
-  entered-keeps (record-of.GoalFact g) s t f e = goal-follows Keeps t s f
+  entered-keeps (record-of.GoalFact g) s t i f e = goal-follows Keeps t s f
 
 -- A record entered, or refused
 
@@ -276,5 +299,24 @@ pub taken-sound : (s t : State) (k : RecordKind) (bs : List ℕ) (r : Record) (a
   → rules-sound s (a .rules) ≡ true → rules-sound t (b .rules) ≡ true
 taken-sound s t k bs r a b u f g e j h =
     let may : follows s k ≡ Some t = from-ok-or (follows s k) fault.MayNotFollow t f in
-    let same : kind-of r ≡ k = fields-kind k bs r (sym g) in
-    entered-keeps a b r s t (ap (follows s) same ∙ may) (entered-ok (entered a r) a u e ∙ ap Ok (sym j)) h
+    let is : Is k r = fields-is k bs r (sym g) in
+    entered-keeps a b r s t (is .1) (ap (follows s) (is .0) ∙ may) (entered-ok (entered a r) a u e ∙ ap Ok (sym j)) h
+
+-- what has ended is closed, and small
+module _ (s : State) (rs : List Rule) (h : rules-sound s rs ≡ true) where
+  ended-sound : all sound (ended s rs) ≡ true
+  ended-sound = and-parts (all sound (ended s rs)) (open-sound s (open-rule rs)) h .0
+
+  pub ended-closed : all closed (ended s rs) ≡ true
+  ended-closed = all-weaker sound closed (ended s rs) (λ r k. and-parts (closed r) (small r) k .0) ended-sound
+
+  pub ended-small : all small (ended s rs) ≡ true
+  ended-small = all-weaker sound small (ended s rs) (λ r k. and-parts (closed r) (small r) k .1) ended-sound
+
+-- the data of the rules that have ended mean the rules that have ended
+pub ended-map : (s : State) (rs qs : List RuleData) → qs ≡ cond (is-open s) (take (length rs - 1) rs) rs → map rule-of qs ≡ ended s (map rule-of rs)
+ended-map s rs qs e = ap (map rule-of) e ∙ go (is-open s)
+  where
+  go : (o : Bool) → map rule-of (cond o (take (length rs - 1) rs) rs) ≡ cond o (take (length (map rule-of rs) - 1) (map rule-of rs)) (map rule-of rs)
+  go true = sym (ap (λ n. take (n - 1) (map rule-of rs)) (length-map rs rule-of) ∙ take-map rule-of (length rs - 1) rs)
+  go false = refl

@@ -7,7 +7,7 @@ use Prim.Native.Nat.{ℕ}
 use Rattle.std.specs.Of.Vec.{vec-items}
 use Rattle.std.specs.declared.option.Option.{Option}
 use Rattle.book.specs.declared.book.Book.{Book as BookData}
-use Rattle.book.specs.Rules.{Rule, rule-of}
+use Rattle.rules.specs.Rules.{Rule, rule-of}
 use Rattle.book.specs.Drafts.{Draft, finished}
 
 pub record Book : Type 0 where

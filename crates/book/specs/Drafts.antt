@@ -11,7 +11,6 @@
 --     is-open s               whether a rule is open
 --     ended s rs, finished d  the rules that have ended
 --     rules-sound s rs        what a draft keeps of its rules
---     told x, kept-or x y     a result without its value; its value, or y where it is a fault
 use mathlib.Core.Bool.{Bool, true, false, cond, not, _&&_, _||_}
 use mathlib.Core.List.{List, [], _∷_, _++_}
 use lib.IntN.{ℤ, pos}
@@ -46,26 +45,9 @@ use Rattle.book.specs.declared.draft.State.{State}
 use Rattle.book.specs.declared.draft.State.the-variants as state
 use Rattle.book.specs.declared.part.Part.{Part}
 use Rattle.book.specs.declared.part.Part.the-variants as part
-use Rattle.book.specs.declared.rule.BodyFact.{BodyFact}
-use Rattle.book.specs.Rules.{Rule, arity-of, bound, guard-bound, fact-bound, parts-bound, headed, closed}
-
--- Results
-
-abbrev pub and-then : {A B E : Type 0} → Result A E → (A → Result B E) → Result B E
-and-then (Ok x) f = f x
-and-then (Err e) f = Err e
-
-abbrev pub told : {A E : Type 0} → Result A E → Result (Unit {0}) E
-told (Ok x) = Ok tt
-told (Err e) = Err e
-
-abbrev pub kept-or : {A E : Type 0} → Result A E → A → A
-kept-or (Ok x) y = x
-kept-or (Err e) y = y
-
--- refused by a fault unless the test holds
-abbrev pub unless : Bool → Fault → Result (Unit {0}) Fault
-unless b f = cond b (Ok tt) (Err f)
+use Rattle.rules.specs.declared.BodyFact.{BodyFact}
+use Rattle.rules.specs.Results.{and-then, unless}
+use Rattle.rules.specs.Rules.{Rule, arity-of, blank-rule, bound, guard-bound, fact-bound, parts-bound, headed, closed, small}
 
 -- Which record may follow which
 
@@ -139,9 +121,6 @@ abbrev pub declared : List (Option ℕ) → ℕ → Result ℕ Fault
 declared ks k = okOr (arity-of ks k) fault.NotDeclared
 
 -- The open rule: each part tested for bound variables, then for room
-
-abbrev pub blank-rule : Rule
-blank-rule = record { heads = []; guards = []; facts = []; fails = false; band = 0; rank = Constant (pos 0) }
 
 abbrev pub with-head : Head → Rule → Result Rule Fault
 with-head h r =
@@ -274,15 +253,18 @@ abbrev pub finished : Draft → List Rule
 finished d = ended (d .state) (d .tables .rules)
 
 -- What a draft keeps: every rule that has ended is closed, the parts of the open one are bound,
--- and it has a head unless it has just begun
+-- it has a head unless it has just begun, and all of them are small
+
+abbrev pub sound : Rule → Bool
+sound r = closed r && small r
 
 abbrev pub open-sound : State → Rule → Bool
 open-sound state.Between r = true
-open-sound state.Begun r = parts-bound r
-open-sound state.Heads r = headed r && parts-bound r
-open-sound state.Guards r = headed r && parts-bound r
-open-sound state.Facts r = headed r && parts-bound r
-open-sound state.Failing r = headed r && parts-bound r
+open-sound state.Begun r = parts-bound r && small r
+open-sound state.Heads r = headed r && (parts-bound r && small r)
+open-sound state.Guards r = headed r && (parts-bound r && small r)
+open-sound state.Facts r = headed r && (parts-bound r && small r)
+open-sound state.Failing r = headed r && (parts-bound r && small r)
 
 abbrev pub rules-sound : State → List Rule → Bool
-rules-sound s rs = all closed (ended s rs) && open-sound s (open-rule rs)
+rules-sound s rs = all sound (ended s rs) && open-sound s (open-rule rs)

@@ -8,8 +8,8 @@ use Rattle.std.specs.Changed.{with-item}
 use Rattle.std.specs.Of.Vec.{vec-items, vec-len}
 use Rattle.book.specs.declared.draft.Draft.{Draft as DraftData}
 use Rattle.book.specs.declared.draft.Tables.{Tables as TablesData}
-use Rattle.book.specs.declared.rule.Rule.{Rule as RuleData}
-use Rattle.book.specs.Rules.{rule-of}
+use Rattle.rules.specs.declared.Rule.{Rule as RuleData}
+use Rattle.rules.specs.Rules.{rule-of}
 use Rattle.book.specs.Drafts.{Draft, Tables}
 
 abbrev pub tables-of : TablesData → Tables

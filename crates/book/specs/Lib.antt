@@ -1,4 +1,3 @@
-pub mod Rules
 pub mod Drafts
 pub mod Held
 pub mod Books

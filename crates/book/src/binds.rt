@@ -1,7 +1,7 @@
 ghost use mathlib.Core.Path.{_≡_};
 ghost use Rattle.facts.specs.Positions.{all};
-ghost use Rattle.book.specs.Rules.{any, names, head-binds, binds, bound, guard-bound, working-bound, fact-bound};
-use crate::rule::BodyFact;
+ghost use Rattle.rules.specs.Rules.{any, names, head-binds, binds, bound, guard-bound, working-bound, fact-bound};
+use rules::BodyFact;
 use host::types::Working;
 use records::parts::Guard;
 use records::parts::Head;

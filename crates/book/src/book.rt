@@ -4,9 +4,9 @@ ghost use mathlib.Core.List.{map};
 ghost use Prim.Native.Nat.{_≤_};
 ghost use Rattle.std.specs.Of.Vec.{vec-items, vec-len};
 ghost use Rattle.facts.specs.Positions.{all};
-ghost use Rattle.book.specs.Rules.{rule-of, closed};
+ghost use Rattle.rules.specs.Rules.{rule-of, closed, small};
 use crate::kinds::Kinds;
-use crate::rule::Rule;
+use rules::Rule;
 
 mod asks;
 mod close;
@@ -18,4 +18,5 @@ pub struct Book {
     rules: Vec<Rule>,
     ghost few: { vec-len rules ≤ 64 },
     ghost closed: { all closed (map rule-of (vec-items rules)) ≡ true },
+    ghost small: { all small (map rule-of (vec-items rules)) ≡ true },
 }

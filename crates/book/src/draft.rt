@@ -3,10 +3,10 @@ ghost use mathlib.Core.Bool.{true};
 ghost use mathlib.Core.List.{map};
 ghost use Prim.Native.Nat.{_≤_};
 ghost use Rattle.std.specs.Of.Vec.{vec-items, vec-len, vec-cap};
-ghost use Rattle.book.specs.Rules.{rule-of};
+ghost use Rattle.rules.specs.Rules.{rule-of};
 ghost use Rattle.book.specs.Drafts.{rules-sound};
 use crate::kinds::Kinds;
-use crate::rule::Rule;
+use rules::Rule;
 
 
 mod calls;

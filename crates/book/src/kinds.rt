@@ -1,6 +1,7 @@
 ghost use mathlib.Core.Path.{_≡_};
-ghost use Rattle.book.specs.Rules.{arity-of};
-ghost use Rattle.book.specs.Drafts.{declaring, told, kept-or};
+ghost use Rattle.rules.specs.Rules.{arity-of};
+ghost use Rattle.rules.specs.Results.{told, kept-or};
+ghost use Rattle.book.specs.Drafts.{declaring};
 ghost use Rattle.std.specs.declared.option.Option.the-variants.{None};
 ghost use lib.ListN.{replicate, length};
 use facts::Kind;

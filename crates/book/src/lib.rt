@@ -11,4 +11,3 @@ pub mod draft;
 mod grow;
 pub mod kinds;
 mod part;
-pub mod rule;

@@ -1,4 +1,4 @@
-use crate::rule::BodyFact;
+use rules::BodyFact;
 use records::parts::Guard;
 use records::parts::Head;
 use records::parts::Operand;

@@ -10,13 +10,8 @@ use Rattle.std.specs.declared.option.Option.{Option}
 use Rattle.std.specs.declared.option.Option.the-variants.{Some, None}
 use Rattle.std.proofs.shelf.Tests.{leb-true, leb-false, le-leb, lt-leb, eqb-true, ne-eqb, eq-eqb, cond-true, cond-false, and-from, and-left, and-right}
 use Rattle.facts.specs.declared.Fact.{Fact}
-use Rattle.store.specs.Store.{find, next-of, Above, Beneath, Rising}
+use Rattle.store.specs.Store.{find, next-of, since, Above, AtLeast, Beneath, Rising}
 use Rattle.store.proofs.Rises.{find-beneath-over}
-
--- The facts with ids at or above id.
-abbrev pub since : ℕ → List Fact → List Fact
-since id [] = []
-since id (f ∷ fs) = cond (leb id (f .id)) (f ∷ since id fs) (since id fs)
 
 pub since-all : (fs : List Fact) (id low : ℕ) → id ≤ low + 1 → Beneath low fs → since id fs ≡ fs
 since-all [] id low l b = refl
@@ -75,6 +70,12 @@ next-at-least (f ∷ fs) kind from id e =
       | other l k n ↦ next-at-least fs kind from id (sym n ∙ e)
       | here l k n ↦ let s = some-id (f .id) id (sym n ∙ e) in omega arith
     ]
+
+pub next-bound : (fs : List Fact) (kind from : ℕ) → AtLeast from (next-of kind from fs)
+next-bound fs kind from = go (next-of kind from fs) refl where
+  go : (r : Option ℕ) → next-of kind from fs ≡ r → AtLeast from r
+  go None e = tt
+  go (Some id) e = next-at-least fs kind from id e
 
 pub next-beneath : (fs : List Fact) (kind from id low : ℕ) → Beneath low fs → next-of kind from fs ≡ Some id → low < id
 next-beneath [] kind from id low b e = absurd (let z : _≡_ {A = ℕ} 0 1 = cc in omega arith)

@@ -3,6 +3,8 @@
 --     without id facts          the facts but the one with that id
 --     next-of kind from facts   the first id of that kind at or above from, or its absence:
 --                               the smallest, since ids rise
+--     since id facts            the facts with ids at or above id
+--     AtLeast from r            what next answers, if anything, is at or above from
 --     Above id facts            id is above the id of every fact
 --     Beneath id facts          id is below the id of every fact
 --     Rising facts              ids rise along the list
@@ -12,7 +14,7 @@
 use mathlib.Core.Path.{_≡_}
 use mathlib.Core.List.{List, [], _∷_, _++_}
 use mathlib.Core.Bool.{Bool, true, cond, _&&_}
-use Prim.Native.Nat.{ℕ, _<_}
+use Prim.Native.Nat.{ℕ, _<_, _≤_}
 use lib.Dec.{eqb, leb, ltb}
 use lib.ListN.{length}
 use Rattle.std.specs.declared.option.Option.{Option}
@@ -31,6 +33,14 @@ abbrev pub next-of : ℕ → ℕ → List Fact → Option ℕ
 next-of kind from [] = None
 next-of kind from (f ∷ fs) =
     cond (leb from (f .id) && eqb (f .kind) kind) (Some (f .id)) (next-of kind from fs)
+
+abbrev pub since : ℕ → List Fact → List Fact
+since id [] = []
+since id (f ∷ fs) = cond (leb id (f .id)) (f ∷ since id fs) (since id fs)
+
+abbrev pub AtLeast : ℕ → Option ℕ → Type 0
+AtLeast from None = Unit {0}
+AtLeast from (Some id) = from ≤ id
 
 abbrev pub Above : ℕ → List Fact → Type 0
 Above id [] = Unit {0}

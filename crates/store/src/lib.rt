@@ -9,7 +9,7 @@ ghost use Prim.Native.Nat.{ℕ, _≤_};
 ghost use lib.ListN.{length};
 ghost use Rattle.std.specs.Results.{isOk};
 ghost use Rattle.facts.specs.declared.Fact.{Fact as LiveFact};
-ghost use Rattle.store.specs.Store.{find, without, next-of, Rising, Added};
+ghost use Rattle.store.specs.Store.{find, without, next-of, Rising, Added, AtLeast};
 
 pub mod flat;
 
@@ -67,7 +67,8 @@ pub trait Store {
 
     /// The smallest live id of that kind at or above `from`, or its absence.
     fn next(&self, kind: Kind, from: Id) -> Option<Id>
-        ensures value { λ r. ⌜ (sound (now (self .entry)) → r ≡ next-of kind from (live (now (self .entry)))) ⌝ };
+        ensures value { λ r. ⌜ (sound (now (self .entry)) → r ≡ next-of kind from (live (now (self .entry)))) ⌝ }
+        ensures bound { λ r. ⌜ AtLeast from r ⌝ };
 
     /// How many facts there is room for in all.
     fn rows(&self) -> usize

@@ -1,9 +1,9 @@
 ghost use mathlib.Core.Path.{_≡_};
 ghost use mathlib.Core.List.{map};
-ghost use Rattle.book.specs.Rules.{arity-of, rule-of};
+ghost use Rattle.rules.specs.Rules.{arity-of, rule-of};
 ghost use Rattle.book.specs.Books.{book-of};
 use crate::book::Book;
-use crate::rule::Rule;
+use rules::Rule;
 use facts::Kind;
 
 impl Book {

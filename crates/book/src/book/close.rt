@@ -9,7 +9,7 @@ ghost use Rattle.book.specs.Held.{draft-of};
 use crate::book::Book;
 use crate::draft::Draft;
 use crate::draft::Tables;
-use crate::rule::Rule;
+use rules::Rule;
 
 impl Draft {
     /// Closes the draft into a book of the rules that have ended; an open rule is dropped.

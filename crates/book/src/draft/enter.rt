@@ -1,13 +1,14 @@
 ghost use mathlib.Core.Path.{_≡_};
 ghost use Rattle.facts.specs.Positions.{all};
 ghost use Rattle.records.specs.declared.kinds.Record.the-variants as record-of;
-ghost use Rattle.book.specs.Drafts.{told, kept-or, declared, entered, copy-clear, field-clear, body-clear, working-of, body-fact};
+ghost use Rattle.rules.specs.Results.{told, kept-or};
+ghost use Rattle.book.specs.Drafts.{declared, entered, copy-clear, field-clear, body-clear, working-of, body-fact};
 ghost use Rattle.book.specs.Held.{tables-of};
 use crate::draft::MOST_RULES;
 use crate::draft::Tables;
+use crate::grow::blank_rule;
 use crate::part::Part;
-use crate::rule::BodyFact;
-use crate::rule::Rule;
+use rules::BodyFact;
 use facts::Kind;
 use facts::positions::Position;
 use facts::positions::unused_clear;
@@ -48,7 +49,7 @@ impl Tables {
         if self.rules.len() >= MOST_RULES {
             return Err(Fault::TooMany);
         }
-        self.rules.push_reserved(Rule::blank());
+        self.rules.push_reserved(blank_rule());
         Ok(())
     }
 

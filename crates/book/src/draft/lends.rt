@@ -10,12 +10,14 @@ ghost use Rattle.std.specs.Options.{isSome};
 ghost use Rattle.std.specs.Slices.{found};
 ghost use Rattle.std.specs.Of.Vec.{vec-items, vec-len};
 ghost use Rattle.book.specs.contracts.draft.Tables.{the-row as tables-row};
-ghost use Rattle.book.specs.contracts.rule.Rule.{the-row as rule-row};
-ghost use Rattle.book.specs.Drafts.{told, kept-or, opened, with-part};
+ghost use Rattle.rules.specs.contracts.Rule.{the-row as rule-row};
+ghost use Rattle.rules.specs.Results.{told, kept-or};
+ghost use Rattle.book.specs.Drafts.{opened, with-part};
 ghost use Rattle.book.specs.Held.{tables-of, with-last};
 use crate::draft::Tables;
+use crate::grow::add;
 use crate::part::Part;
-use crate::rule::Rule;
+use rules::Rule;
 use records::fault::Fault;
 
 impl Tables {
@@ -35,6 +37,6 @@ impl Tables {
         let Some(rule) = self.open_rule() else {
             return Err(Fault::MayNotFollow);
         };
-        rule.add(part)
+        add(rule, part)
     }
 }

@@ -8,7 +8,7 @@ ghost use lib.ListN.{length, getD};
 ghost use Rattle.std.specs.Options.{Cases};
 ghost use Rattle.std.specs.Orderings.{Decides};
 ghost use Rattle.store.specs.Spots.{place, blank, Spot, Absent};
-ghost use Rattle.store.specs.Store.{next-of, rises, Above};
+ghost use Rattle.store.specs.Store.{AtLeast, next-of, rises, Above};
 use facts::Fact;
 use facts::Id;
 use facts::Kind;
@@ -76,6 +76,7 @@ fn first_of(facts: &[Fact], kind: Kind, from: Id) -> Option<Id>
 pub(super) fn next_in(facts: &[Fact], kind: Kind, from: Id) -> Option<Id>
     requires { ⌜ rises (now facts) ≡ true ⌝ }
     ensures value { λ r. ⌜ r ≡ next-of kind from (now (facts .entry)) ⌝ }
+    ensures bound { λ r. ⌜ AtLeast from r ⌝ }
 {
     let at = place_of(facts, from);
     first_of(&facts[at..], kind, from)

@@ -1,7 +1,7 @@
 use mathlib.Core.Path.{_≡_}
 use lib.ListN.{drop}
 use Rattle.facts.specs.Positions.{all}
-use Rattle.book.specs.Rules.{working-bound}
+use Rattle.rules.specs.Rules.{working-bound}
 use Rattle.book.proofs.binds.all_bound.Given as given
 
 abbrev pub Inv-loop-working : given.InvT-loop-working

@@ -1,5 +1,5 @@
-use Rattle.book.specs.Rules.{head-binds}
-use Rattle.book.proofs.Finds.{any-more, any-found, any-none}
+use Rattle.rules.specs.Rules.{head-binds}
+use Rattle.rules.proofs.Tests.{any-more, any-found, any-none}
 use Rattle.book.proofs.binds.binds.Needs as need
 
 pub returns-then-some-names : need.returns-then-some-names

@@ -1,6 +1,6 @@
 use mathlib.Core.Path.{_≡_}
 use lib.ListN.{drop}
-use Rattle.book.specs.Rules.{any, head-binds}
+use Rattle.rules.specs.Rules.{any, head-binds}
 use Rattle.book.proofs.binds.binds.Given as given
 
 abbrev pub Inv-loop-head : given.InvT-loop-head

@@ -1,5 +1,5 @@
-use Rattle.book.specs.Rules.{names}
-use Rattle.book.proofs.Finds.{any-more, any-found, any-none}
+use Rattle.rules.specs.Rules.{names}
+use Rattle.rules.proofs.Tests.{any-more, any-found, any-none}
 use Rattle.book.proofs.binds.some_names.Needs as need
 
 pub returns-then-names : need.returns-then-names

@@ -1,6 +1,6 @@
 use mathlib.Core.Path.{_≡_}
 use lib.ListN.{drop}
-use Rattle.book.specs.Rules.{any, names}
+use Rattle.rules.specs.Rules.{any, names}
 use Rattle.book.proofs.binds.some_names.Given as given
 
 abbrev pub Inv-loop-operand : given.InvT-loop-operand

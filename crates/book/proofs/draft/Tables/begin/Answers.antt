@@ -2,7 +2,7 @@ use mathlib.Core.Path.{_≡_, sym, ap, subst}
 use Prim.Native.Nat.{_<_, _≤_}
 use native.Mathlib.Omega.{arith}
 use Rattle.std.specs.Of.Vec.{vec-len}
-use Rattle.book.specs.Drafts.{told, kept-or}
+use Rattle.rules.specs.Results.{told, kept-or}
 use Rattle.book.specs.Held.{tables-of}
 use Rattle.book.proofs.OpenRules.{begin-full, begin-more, begin-after}
 use Rattle.book.proofs.draft.Tables.begin.Needs as need
@@ -18,5 +18,5 @@ returns c =
     let h : vec-len (c .args .self .now .rules) < 64 = omega arith in
     record {
       value = sym (ap told (begin-more (c .args .self .now) h));
-      after = begin-after (c .args .self .now) h _ (c .blank .result) (c .push-reserved .ensures .items) (c .blank .ensures .value);
+      after = begin-after (c .args .self .now) h _ (c .blank-rule .result) (c .push-reserved .ensures .items) (c .blank-rule .ensures .value);
     }

@@ -1,5 +1,6 @@
 use mathlib.Core.Path.{sym, ap, _∙_}
-use Rattle.book.specs.Drafts.{told, kept-or, with-part}
+use Rattle.rules.specs.Results.{told, kept-or}
+use Rattle.book.specs.Drafts.{with-part}
 use Rattle.book.specs.Held.{tables-of}
 use Rattle.book.proofs.OpenRules.{opened-none, opened-told, opened-after}
 use Rattle.book.proofs.draft.Tables.change.Needs as need
@@ -14,5 +15,5 @@ returns c =
     let l = c .in-Some .ensures tt .lends in
     record {
       value = c .add .ensures .value ∙ opened-told (c .args .self .now) (c .in-Some .rule .now) (l .0) (l .1) (with-part (c .args .part));
-      after = opened-after (c .args .self .now) (c .in-Some .rule .now) (l .0) (l .1) (with-part (c .args .part)) (c .add .last .self) (c .add .ensures .after);
+      after = opened-after (c .args .self .now) (c .in-Some .rule .now) (l .0) (l .1) (with-part (c .args .part)) (c .add .last .rule) (c .add .ensures .after);
     }
