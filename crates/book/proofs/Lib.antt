@@ -1,4 +1,5 @@
+pub mod Cases
 pub mod OpenRules
 pub mod Records
-pub mod States
 pub mod Soundness
+pub mod States

@@ -1,17 +1,16 @@
 -- A draft keeps what it keeps of its rules, whatever record it takes.
-use mathlib.Core.Bool.{Bool, true, false, cond, _&&_, _||_}
+use mathlib.Core.Bool.{Bool, true, false, cond, _&&_}
 use mathlib.Core.List.{List, [], _∷_, _++_, map}
 use mathlib.Core.Path.{_≡_, refl, sym, ap, subst, _∙_}
 use Prim.Native.Nat.{ℕ, suc, _+_, _-_, _<_, _≤_}
 use native.Mathlib.Omega.{arith}
 use lib.Dec.{leb, ltb}
-use lib.ListN.{length, getD, set, take, drop, length-set, length-map}
+use lib.ListN.{length, getD, set, take, length-set, length-map}
 use Rattle.std.proofs.shelf.Lists.{take-at, take-set, drop-all, set-split, getD-push, getD-set-same, length-push, take-map}
 use Rattle.std.proofs.shelf.Tests.{and-parts, and-from, or-cases, or-left, or-right, ltb-true, lt-ltb, le-leb}
 use mathlib.Core.Logic.{⊎-elim}
 use Rattle.std.specs.Options.{okOr}
-use Rattle.std.specs.declared.option.Option.{Option}
-use Rattle.std.specs.declared.option.Option.the-variants.{Some, None}
+use Rattle.std.specs.declared.option.Option.the-variants.{Some}
 use Rattle.std.specs.declared.result.Result.{Result}
 use Rattle.std.specs.declared.result.Result.the-variants.{Ok, Err}
 use Rattle.facts.specs.Positions.{all, unused-clear}
@@ -36,6 +35,7 @@ use Rattle.rules.specs.declared.Rule.{Rule as RuleData}
 use Rattle.rules.specs.Rules.{Rule, rule-of, any, head-binds, bound, guard-bound, working-bound, fact-bound, parts-bound, headed, closed, head-in-range, small, blank-rule}
 use Rattle.rules.specs.Results.{and-then, told, kept-or, unless}
 use Rattle.book.specs.Drafts.{Tables, open-rule, with-part, declaring, declared, body-clear, body-fact, opened, entered, follows, is-open, ended, sound, open-sound, rules-sound}
+use Rattle.book.proofs.Cases.{same-ok, ok-then, ok-unless, ok-some, told-ok, told-err}
 use Rattle.book.proofs.Records.{kind-of, ranged, Is, fields-is}
 use Rattle.book.proofs.States.{fact-kind-follows, begin-follows, head-follows, guard-follows, body-follows, fail-follows, end-follows, goal-follows}
 
@@ -76,25 +76,12 @@ module _ (hs : List Head) (h : Head) where
   fact-more f e = all-weaker (working-bound hs) (working-bound (hs ++ h ∷ [])) (f .workings) working-more e
 
   parts-more : (gs : List Guard) (fs : List BodyFact) → (all (guard-bound hs) gs && all (fact-bound hs) fs) ≡ true
-    → (all (guard-bound (hs ++ h ∷ [])) gs && all (fact-bound (hs ++ h ∷ [])) fs) ≡ true
+      → (all (guard-bound (hs ++ h ∷ [])) gs && all (fact-bound (hs ++ h ∷ [])) fs) ≡ true
   parts-more gs fs e =
       let p = and-parts (all (guard-bound hs) gs) (all (fact-bound hs) fs) e in
       and-from (all (guard-bound (hs ++ h ∷ [])) gs) (all (fact-bound (hs ++ h ∷ [])) fs)
-        (all-weaker (guard-bound hs) (guard-bound (hs ++ h ∷ [])) gs guard-more (p .0))
-        (all-weaker (fact-bound hs) (fact-bound (hs ++ h ∷ [])) fs fact-more (p .1))
-
--- Results
-
-same-ok : {A E : Type 0} {x y : A} → _≡_ {A = Result A E} (Ok x) (Ok y) → x ≡ y
-same-ok e = cc
-
-from-then : {A B E : Type 0} (x : Result A E) (f : A → Result B E) (b : B) → and-then x f ≡ Ok b → (a : A) × ((x ≡ Ok a) × (f a ≡ Ok b))
-from-then (Ok a) f b e = (a, (refl, e))
-from-then (Err d) f b e = absurd (let z : _≡_ {A = ℕ} 0 1 = cc in omega arith)
-
-from-unless : {A : Type 0} (t : Bool) (f : Fault) (x : Result A Fault) (a : A) → and-then (unless t f) (λ _. x) ≡ Ok a → (t ≡ true) × (x ≡ Ok a)
-from-unless true f x a e = (refl, e)
-from-unless false f x a e = absurd (let z : _≡_ {A = ℕ} 0 1 = cc in omega arith)
+      (all-weaker (guard-bound hs) (guard-bound (hs ++ h ∷ [])) gs guard-more (p .0))
+      (all-weaker (fact-bound hs) (fact-bound (hs ++ h ∷ [])) fs fact-more (p .1))
 
 -- A part put into a rule
 
@@ -116,7 +103,7 @@ well-begun r k = and-parts (headed r) (begun r) k .1
 well-from : (r : Rule) → headed r ≡ true → all (guard-bound (r .heads)) (r .guards) ≡ true → all (fact-bound (r .heads)) (r .facts) ≡ true → small r ≡ true → Well r
 well-from r h g f s =
     and-from (headed r) (begun r) h
-      (and-from (parts-bound r) (small r) (and-from (all (guard-bound (r .heads)) (r .guards)) (all (fact-bound (r .heads)) (r .facts)) g f) s)
+    (and-from (parts-bound r) (small r) (and-from (all (guard-bound (r .heads)) (r .guards)) (all (fact-bound (r .heads)) (r .facts)) g f) s)
 
 module _ (r q : Rule) where
   abbrev hs : List Head
@@ -130,22 +117,22 @@ module _ (r q : Rule) where
 
   head-step : (h : Head) → head-in-range h ≡ true → with-part (part.Head h) r ≡ Ok q → begun r ≡ true → Well q
   head-step h i e k =
-      let p = from-unless (ltb (length hs) 4) fault.TooMany (Ok (more r (hs ++ h ∷ []) (r .guards) (r .facts))) q e in
+      let p = ok-unless (ltb (length hs) 4) fault.TooMany (Ok (more r (hs ++ h ∷ []) (r .guards) (r .facts))) q e in
       let n : 0 < length (hs ++ h ∷ []) = simp length-push (omega arith) in
       let l : length hs < 4 = ltb-true (length hs) 4 (p .0) in
       let m : length (hs ++ h ∷ []) ≤ 4 = simp length-push (omega arith) in
       let w = and-parts (parts-bound r) (small r) k in
       let s = and-parts (leb (length hs) 4) (all head-in-range hs) (w .1) in
       subst Well (same-ok (p .1))
-        (and-from (ltb 0 (length (hs ++ h ∷ []))) _ (lt-ltb 0 _ n)
-          (and-from (parts-bound (more r (hs ++ h ∷ []) (r .guards) (r .facts))) _ (parts-more hs h (r .guards) (r .facts) (w .0))
-            (and-from (leb (length (hs ++ h ∷ [])) 4) _ (le-leb _ 4 m) (all-push head-in-range hs h (s .1) i))))
+      (and-from (ltb 0 (length (hs ++ h ∷ []))) _ (lt-ltb 0 _ n)
+      (and-from (parts-bound (more r (hs ++ h ∷ []) (r .guards) (r .facts))) _ (parts-more hs h (r .guards) (r .facts) (w .0))
+      (and-from (leb (length (hs ++ h ∷ [])) 4) _ (le-leb _ 4 m) (all-push head-in-range hs h (s .1) i))))
 
   guard-step : (g : Guard) → with-part (part.Guard g) r ≡ Ok q → Well r → Well q
   guard-step g e k =
       let grown : Rule = more r hs (r .guards ++ g ∷ []) (r .facts) in
-      let p = from-unless (guard-bound hs g) fault.Unbound (and-then (unless (ltb (length (r .guards)) 8) fault.TooMany) (λ _. Ok grown)) q e in
-      let n = from-unless (ltb (length (r .guards)) 8) fault.TooMany (Ok grown) q (p .1) in
+      let p = ok-unless (guard-bound hs g) fault.Unbound (and-then (unless (ltb (length (r .guards)) 8) fault.TooMany) (λ _. Ok grown)) q e in
+      let n = ok-unless (ltb (length (r .guards)) 8) fault.TooMany (Ok grown) q (p .1) in
       let h = and-parts (headed r) (begun r) k in
       let w = begun-parts (h .1) in
       subst Well (same-ok (n .1)) (well-from grown (h .0) (all-push (guard-bound hs) (r .guards) g (w .0) (p .0)) (w .1 .0) (w .1 .1))
@@ -153,8 +140,8 @@ module _ (r q : Rule) where
   fact-step : (f : BodyFact) → with-part (part.Fact f) r ≡ Ok q → Well r → Well q
   fact-step f e k =
       let grown : Rule = more r hs (r .guards) (r .facts ++ f ∷ []) in
-      let p = from-unless (fact-bound hs f) fault.Unbound (and-then (unless (ltb (length (r .facts)) 4) fault.TooMany) (λ _. Ok grown)) q e in
-      let n = from-unless (ltb (length (r .facts)) 4) fault.TooMany (Ok grown) q (p .1) in
+      let p = ok-unless (fact-bound hs f) fault.Unbound (and-then (unless (ltb (length (r .facts)) 4) fault.TooMany) (λ _. Ok grown)) q e in
+      let n = ok-unless (ltb (length (r .facts)) 4) fault.TooMany (Ok grown) q (p .1) in
       let h = and-parts (headed r) (begun r) k in
       let w = begun-parts (h .1) in
       subst Well (same-ok (n .1)) (well-from grown (h .0) (w .0) (all-push (fact-bound hs) (r .facts) f (w .1 .0) (p .0)) (w .1 .1))
@@ -165,11 +152,11 @@ module _ (r q : Rule) where
   end-step : (b : ℕ) (o : Operand) → with-part (part.End b o) r ≡ Ok q → Well r → sound q ≡ true
   end-step b o e k =
       let done : Rule = record { heads = hs; guards = r .guards; facts = r .facts; fails = r .fails; band = b; rank = o } in
-      let p = from-unless (bound hs o) fault.Unbound (Ok done) q e in
+      let p = ok-unless (bound hs o) fault.Unbound (Ok done) q e in
       let h = and-parts (headed r) (begun r) k in
       let w = and-parts (parts-bound r) (small r) (h .1) in
       subst (λ (q : Rule). sound q ≡ true) (same-ok (p .1))
-        (and-from (closed done) (small done) (and-from (headed r) _ (h .0) (and-from (parts-bound r) _ (w .0) (p .0))) (w .1))
+      (and-from (closed done) (small done) (and-from (headed r) _ (h .0) (and-from (parts-bound r) _ (w .0) (p .0))) (w .1))
 
 -- The open rule changed in its place
 
@@ -180,11 +167,11 @@ abbrev changed : List Rule → Rule → List Rule
 changed rs q = set rs (length rs - 1) q
 
 opened-parts : (f : Rule → Result Rule Fault) (a b : Tables) → opened a f ≡ Ok b
-  → (q : Rule) × ((0 < length (a .rules)) × ((f (open-rule (a .rules)) ≡ Ok q) × (changed (a .rules) q ≡ b .rules)))
+    → (q : Rule) × ((0 < length (a .rules)) × ((f (open-rule (a .rules)) ≡ Ok q) × (changed (a .rules) q ≡ b .rules)))
 opened-parts f a b e =
     let put : Rule → Result Tables Fault = λ q. Ok (record { kinds = a .kinds; rules = changed (a .rules) q }) in
-    let p = from-unless (ltb 0 (length (a .rules))) fault.MayNotFollow (and-then (f (open-rule (a .rules))) put) b e in
-    let n = from-then (f (open-rule (a .rules))) put b (p .1) in
+    let p = ok-unless (ltb 0 (length (a .rules))) fault.MayNotFollow (and-then (f (open-rule (a .rules))) put) b e in
+    let n = ok-then (f (open-rule (a .rules))) put b (p .1) in
     (n .0, (ltb-true 0 _ (p .0), (n .1 .0, ap (λ (t : Tables). t .rules) (same-ok (n .1 .1)))))
 
 module _ (rs : List Rule) (q : Rule) (n : 0 < length rs) where
@@ -204,23 +191,23 @@ module _ (rs : List Rule) (q : Rule) (n : 0 < length rs) where
 
 module _ (f : Rule → Result Rule Fault) (was : Rule → Bool) (a b : Tables) (e : opened a f ≡ Ok b) (h : (all sound (before (a .rules)) && was (open-rule (a .rules))) ≡ true) where
   change-open : (is : Rule → Bool) → ((r q : Rule) → f r ≡ Ok q → was r ≡ true → is q ≡ true)
-    → (all sound (before (b .rules)) && is (open-rule (b .rules))) ≡ true
+      → (all sound (before (b .rules)) && is (open-rule (b .rules))) ≡ true
   change-open is step =
       let p = opened-parts f a b e in
       let k = and-parts (all sound (before (a .rules))) (was (open-rule (a .rules))) h in
       subst (λ (rs : List Rule). (all sound (before rs) && is (open-rule rs)) ≡ true) (p .1 .1 .1)
-        (and-from (all sound (before (changed (a .rules) (p .0)))) _
-          (ap (all sound) (before-changed (a .rules) (p .0) (p .1 .0)) ∙ k .0)
-          (ap is (open-changed (a .rules) (p .0) (p .1 .0)) ∙ step _ (p .0) (p .1 .1 .0) (k .1)))
+      (and-from (all sound (before (changed (a .rules) (p .0)))) _
+      (ap (all sound) (before-changed (a .rules) (p .0) (p .1 .0)) ∙ k .0)
+      (ap is (open-changed (a .rules) (p .0) (p .1 .0)) ∙ step _ (p .0) (p .1 .1 .0) (k .1)))
 
   change-end : ((r q : Rule) → f r ≡ Ok q → was r ≡ true → sound q ≡ true) → (all sound (b .rules) && true) ≡ true
   change-end step =
       let p = opened-parts f a b e in
       let k = and-parts (all sound (before (a .rules))) (was (open-rule (a .rules))) h in
       subst (λ (rs : List Rule). (all sound rs && true) ≡ true) (p .1 .1 .1)
-        (and-from (all sound (changed (a .rules) (p .0))) true
-          (ap (all sound) (changed-push (a .rules) (p .0) (p .1 .0)) ∙ all-push sound (before (a .rules)) (p .0) (k .0) (step _ (p .0) (p .1 .1 .0) (k .1)))
-          refl)
+      (and-from (all sound (changed (a .rules) (p .0))) true
+      (ap (all sound) (changed-push (a .rules) (p .0) (p .1 .0)) ∙ all-push sound (before (a .rules)) (p .0) (k .0) (step _ (p .0) (p .1 .1 .0) (k .1)))
+      refl)
 
 -- Each record
 
@@ -234,33 +221,33 @@ module _ (a b : Tables) where
 
   begin-keeps : entered a record-of.RuleBegins ≡ Ok b → Keeps state.Between state.Begun
   begin-keeps e h =
-      let p = from-unless (ltb (length (a .rules)) 64) fault.TooMany (Ok (record { kinds = a .kinds; rules = a .rules ++ blank-rule ∷ [] })) b e in
+      let p = ok-unless (ltb (length (a .rules)) 64) fault.TooMany (Ok (record { kinds = a .kinds; rules = a .rules ++ blank-rule ∷ [] })) b e in
       let k = and-parts (all sound (a .rules)) true h in
       let m : length (a .rules ++ blank-rule ∷ []) - 1 ≡ length (a .rules) = simp length-push (omega arith) in
       subst (λ (rs : List Rule). (all sound (before rs) && begun (open-rule rs)) ≡ true) (ap (λ (t : Tables). t .rules) (same-ok (p .1)))
-        (and-from (all sound (before (a .rules ++ blank-rule ∷ []))) _
-          (ap (λ i. all sound (take i (a .rules ++ blank-rule ∷ []))) m ∙ ap (all sound) (take-at (a .rules) (blank-rule ∷ []) _ refl) ∙ k .0)
-          (ap (λ i. begun (getD (a .rules ++ blank-rule ∷ []) i blank-rule)) m ∙ ap begun (getD-push (a .rules) blank-rule blank-rule _ refl)))
+      (and-from (all sound (before (a .rules ++ blank-rule ∷ []))) _
+      (ap (λ i. all sound (take i (a .rules ++ blank-rule ∷ []))) m ∙ ap (all sound) (take-at (a .rules) (blank-rule ∷ []) _ refl) ∙ k .0)
+      (ap (λ i. begun (getD (a .rules ++ blank-rule ∷ []) i blank-rule)) m ∙ ap begun (getD-push (a .rules) blank-rule blank-rule _ refl)))
 
   pub entered-keeps : (r : Record) (s t : State) → ranged r ≡ true → follows s (kind-of r) ≡ Some t → entered a r ≡ Ok b → Keeps s t
   entered-keeps (record-of.FactKind n k) s t i f e =
-      let p = from-then (declaring (a .kinds) n k) (λ ks. Ok (record { kinds = ks; rules = a .rules })) b e in
+      let p = ok-then (declaring (a .kinds) n k) (λ ks. Ok (record { kinds = ks; rules = a .rules })) b e in
       fact-kind-follows Keeps t s f (λ h. subst (λ (rs : List Rule). (all sound rs && true) ≡ true) (ap (λ (t : Tables). t .rules) (same-ok (p .1 .1))) h)
   entered-keeps record-of.RuleBegins s t i f e = begin-follows Keeps t s f (begin-keeps e)
   entered-keeps (record-of.Head h) s t i f e =
       let put : Result Tables Fault = opened a (with-part (part.Head h)) in
-      let p = from-then (declared (a .kinds) (h .kind)) (λ n. and-then (unless (unused-clear operand-blank n (h .operands)) fault.UnusedFilled) (λ _. put)) b e in
-      let o = from-unless (unused-clear operand-blank (p .0) (h .operands)) fault.UnusedFilled put b (p .1 .1) in
+      let p = ok-then (declared (a .kinds) (h .kind)) (λ n. and-then (unless (unused-clear operand-blank n (h .operands)) fault.UnusedFilled) (λ _. put)) b e in
+      let o = ok-unless (unused-clear operand-blank (p .0) (h .operands)) fault.UnusedFilled put b (p .1 .1) in
       head-follows Keeps t s f
-        (λ k. change-open (with-part (part.Head h)) begun a b (o .1) k well (λ r q. head-step r q h i))
-        (λ k. change-open (with-part (part.Head h)) well a b (o .1) k well (λ r q d w. head-step r q h i d (well-begun r w)))
+      (λ k. change-open (with-part (part.Head h)) begun a b (o .1) k well (λ r q. head-step r q h i))
+      (λ k. change-open (with-part (part.Head h)) well a b (o .1) k well (λ r q d w. head-step r q h i d (well-begun r w)))
   entered-keeps (record-of.Guard g) s t i f e =
       let c : Stays = λ k. change-open (with-part (part.Guard g)) well a b e k well (λ r q. guard-step r q g) in
       guard-follows Keeps t s f c c
   entered-keeps (record-of.BodyFact d) s t i f e =
       let put : ℕ → Result Tables Fault = λ n. opened a (with-part (part.Fact (body-fact n d))) in
-      let p = from-then (declared (a .kinds) (d .kind)) (λ n. and-then (unless (body-clear n (d .workings)) fault.UnusedFilled) (λ _. put n)) b e in
-      let o = from-unless (body-clear (p .0) (d .workings)) fault.UnusedFilled (put (p .0)) b (p .1 .1) in
+      let p = ok-then (declared (a .kinds) (d .kind)) (λ n. and-then (unless (body-clear n (d .workings)) fault.UnusedFilled) (λ _. put n)) b e in
+      let o = ok-unless (body-clear (p .0) (d .workings)) fault.UnusedFilled (put (p .0)) b (p .1 .1) in
       let c : Stays = λ k. change-open (with-part (part.Fact (body-fact (p .0) d))) well a b (o .1) k well (λ r q. fact-step r q (body-fact (p .0) d)) in
       body-follows Keeps t s f c c c
   entered-keeps record-of.Fail s t i f e =
@@ -268,39 +255,27 @@ module _ (a b : Tables) where
       fail-follows Keeps t s f c c
   entered-keeps (record-of.RuleEnds n o) s t i f e =
       let c : (all sound (before (a .rules)) && well (open-rule (a .rules))) ≡ true → (all sound (b .rules) && true) ≡ true =
-        λ k. change-end (with-part (part.End n o)) well a b e k (λ r q. end-step r q n o) in
+      λ k. change-end (with-part (part.End n o)) well a b e k (λ r q. end-step r q n o) in
       end-follows Keeps t s f c c c c
   entered-keeps (record-of.GoalFact g) s t i f e = goal-follows Keeps t s f
 
--- A record entered, or refused
-
-pub entered-ok : {A E : Type 0} (x : Result A E) (y : A) (u : Unit {0}) → Ok u ≡ told x → x ≡ Ok (kept-or x y)
-entered-ok (Ok a) y u e = refl
-entered-ok (Err d) y u e = absurd (let z : _≡_ {A = ℕ} 0 1 = cc in omega arith)
-
-pub entered-err : {A E : Type 0} (x : Result A E) (d : E) → Err d ≡ told x → x ≡ Err d
-entered-err (Ok a) d e = absurd (let z : _≡_ {A = ℕ} 0 1 = cc in omega arith)
-entered-err (Err c) d e = cc
-
-from-ok-or : {A E : Type 0} (o : Option A) (d : E) (a : A) → Ok a ≡ okOr o d → o ≡ Some a
-from-ok-or (Some x) d a e = cc
-from-ok-or None d a e = absurd (let z : _≡_ {A = ℕ} 0 1 = cc in omega arith)
+-- A record taken, or refused
 
 -- what a draft keeps, it keeps at a record refused
 pub refused-sound : (s : State) (r : Record) (a b : Tables) (d : Fault) → Err d ≡ told (entered a r) → b ≡ kept-or (entered a r) a
-  → rules-sound s (a .rules) ≡ true → rules-sound s (b .rules) ≡ true
+    → rules-sound s (a .rules) ≡ true → rules-sound s (b .rules) ≡ true
 refused-sound s r a b d e k h =
-    let same : b ≡ a = k ∙ ap (λ x. kept-or x a) (entered-err (entered a r) d e) in
+    let same : b ≡ a = k ∙ ap (λ x. kept-or x a) (told-err (entered a r) d e) in
     subst (λ (t : Tables). rules-sound s (t .rules) ≡ true) (sym same) h
 
 -- and at a record taken
 pub taken-sound : (s t : State) (k : RecordKind) (bs : List ℕ) (r : Record) (a b : Tables) (u : Unit {0})
-  → Ok t ≡ okOr (follows s k) fault.MayNotFollow → Ok r ≡ fields k bs → Ok u ≡ told (entered a r) → b ≡ kept-or (entered a r) a
-  → rules-sound s (a .rules) ≡ true → rules-sound t (b .rules) ≡ true
+    → Ok t ≡ okOr (follows s k) fault.MayNotFollow → Ok r ≡ fields k bs → Ok u ≡ told (entered a r) → b ≡ kept-or (entered a r) a
+    → rules-sound s (a .rules) ≡ true → rules-sound t (b .rules) ≡ true
 taken-sound s t k bs r a b u f g e j h =
-    let may : follows s k ≡ Some t = from-ok-or (follows s k) fault.MayNotFollow t f in
+    let may : follows s k ≡ Some t = ok-some (follows s k) fault.MayNotFollow t (sym f) in
     let is : Is k r = fields-is k bs r (sym g) in
-    entered-keeps a b r s t (is .1) (ap (follows s) (is .0) ∙ may) (entered-ok (entered a r) a u e ∙ ap Ok (sym j)) h
+    entered-keeps a b r s t (is .1) (ap (follows s) (is .0) ∙ may) (told-ok (entered a r) a u (sym e) ∙ ap Ok (sym j)) h
 
 -- what has ended is closed, and small
 module _ (s : State) (rs : List Rule) (h : rules-sound s rs ≡ true) where
@@ -317,6 +292,6 @@ module _ (s : State) (rs : List Rule) (h : rules-sound s rs ≡ true) where
 pub ended-map : (s : State) (rs qs : List RuleData) → qs ≡ cond (is-open s) (take (length rs - 1) rs) rs → map rule-of qs ≡ ended s (map rule-of rs)
 ended-map s rs qs e = ap (map rule-of) e ∙ go (is-open s)
   where
-  go : (o : Bool) → map rule-of (cond o (take (length rs - 1) rs) rs) ≡ cond o (take (length (map rule-of rs) - 1) (map rule-of rs)) (map rule-of rs)
-  go true = sym (ap (λ n. take (n - 1) (map rule-of rs)) (length-map rs rule-of) ∙ take-map rule-of (length rs - 1) rs)
-  go false = refl
+    go : (o : Bool) → map rule-of (cond o (take (length rs - 1) rs) rs) ≡ cond o (take (length (map rule-of rs) - 1) (map rule-of rs)) (map rule-of rs)
+    go true = sym (ap (λ n. take (n - 1) (map rule-of rs)) (length-map rs rule-of) ∙ take-map rule-of (length rs - 1) rs)
+    go false = refl

@@ -1,19 +1,11 @@
 -- In which states a record may follow, and the state then: one lemma for each kind of record.
 use mathlib.Core.Path.{_≡_, subst}
-use Prim.Native.Nat.{ℕ}
-use native.Mathlib.Omega.{arith}
-use Rattle.std.specs.declared.option.Option.{Option}
-use Rattle.std.specs.declared.option.Option.the-variants.{Some, None}
+use Rattle.std.specs.declared.option.Option.the-variants.{Some}
 use Rattle.records.specs.declared.kinds.RecordKind.the-variants as kind
 use Rattle.book.specs.declared.draft.State.{State}
 use Rattle.book.specs.declared.draft.State.the-variants as state
 use Rattle.book.specs.Drafts.{follows}
-
-none-is-some : {A : Type 0} {x : A} {P : Type 0} → None ≡ Some x → P
-none-is-some e = absurd (let z : _≡_ {A = ℕ} 0 1 = cc in omega arith)
-
-same-some : {A : Type 0} {x y : A} → Some x ≡ Some y → x ≡ y
-same-some e = cc
+use Rattle.book.proofs.Cases.{none-is-some, same-some}
 
 module _ (P : State → State → Type 0) (t : State) where
   pub fact-kind-follows : (s : State) → follows s kind.FactKind ≡ Some t → P state.Between state.Between → P s t

@@ -11,9 +11,9 @@
 --     is-open s               whether a rule is open
 --     ended s rs, finished d  the rules that have ended
 --     rules-sound s rs        what a draft keeps of its rules
-use mathlib.Core.Bool.{Bool, true, false, cond, not, _&&_, _||_}
+use mathlib.Core.Bool.{Bool, true, false, cond, _&&_}
 use mathlib.Core.List.{List, [], _∷_, _++_}
-use lib.IntN.{ℤ, pos}
+use lib.IntN.{pos}
 use Prim.Native.Nat.{ℕ, _-_}
 use lib.Dec.{ltb}
 use lib.ListN.{length, getD, set, take, replicate}
@@ -34,7 +34,7 @@ use Rattle.records.specs.declared.kinds.RecordKind.the-variants as kind
 use Rattle.records.specs.declared.kinds.Record.{Record}
 use Rattle.records.specs.declared.kinds.Record.the-variants as record-of
 use Rattle.records.specs.declared.parts.Operand.{Operand}
-use Rattle.records.specs.declared.parts.Operand.the-variants.{Constant, Variable}
+use Rattle.records.specs.declared.parts.Operand.the-variants.{Constant}
 use Rattle.records.specs.declared.parts.Operation.{Operation}
 use Rattle.records.specs.declared.parts.Operation.the-variants as operation
 use Rattle.records.specs.declared.parts.Head.{Head}
@@ -182,8 +182,8 @@ body-fact a f = record {
   workings = working-of (getD (f .workings) 0 blank-field) ∷ working-of (getD (f .workings) 1 blank-field) ∷ working-of (getD (f .workings) 2 blank-field) ∷ [];
 }
   where
-  blank-field : WorkingField
-  blank-field = record { operation = operation.Copy; first = Constant (pos 0); second = Constant (pos 0) }
+    blank-field : WorkingField
+    blank-field = record { operation = operation.Copy; first = Constant (pos 0); second = Constant (pos 0) }
 
 -- The tables
 

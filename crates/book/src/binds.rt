@@ -1,11 +1,11 @@
 ghost use mathlib.Core.Path.{_≡_};
 ghost use Rattle.facts.specs.Positions.{all};
-ghost use Rattle.rules.specs.Rules.{any, names, head-binds, binds, bound, guard-bound, working-bound, fact-bound};
-use rules::BodyFact;
+ghost use Rattle.rules.specs.Rules.{any, names, binds, bound, guard-bound, working-bound, fact-bound};
 use host::types::Working;
 use records::parts::Guard;
 use records::parts::Head;
 use records::parts::Operand;
+use rules::BodyFact;
 
 // Whether some head has the variable.
 fn binds(heads: &[Head], variable: u8) -> bool

@@ -8,7 +8,6 @@ ghost use Rattle.book.specs.Drafts.{rules-sound};
 use crate::kinds::Kinds;
 use rules::Rule;
 
-
 mod calls;
 mod enter;
 mod lends;

@@ -6,8 +6,6 @@ use crate::binds::bound;
 use crate::binds::fact_bound;
 use crate::binds::guard_bound;
 use crate::part::Part;
-use rules::BodyFact;
-use rules::Rule;
 use few::Few;
 use host::types::Comparator;
 use host::types::Working;
@@ -15,6 +13,8 @@ use records::fault::Fault;
 use records::parts::Guard;
 use records::parts::Head;
 use records::parts::Operand;
+use rules::BodyFact;
+use rules::Rule;
 
 const ZERO: Operand = Operand::Constant(0);
 
@@ -23,9 +23,21 @@ pub(crate) fn blank_rule() -> Rule
     ensures value { λ r. ⌜ rule-of r ≡ blank-rule ⌝ }
 {
     Rule {
-        heads: Few::none(Head { taken: false, kind: 0, operands: [ZERO; 3] }),
-        guards: Few::none(Guard { comparator: Comparator::Equal, left: ZERO, right: ZERO }),
-        facts: Few::none(BodyFact { kind: 0, arity: 0, workings: [Working::Copy(ZERO); 3] }),
+        heads: Few::none(Head {
+            taken: false,
+            kind: 0,
+            operands: [ZERO; 3],
+        }),
+        guards: Few::none(Guard {
+            comparator: Comparator::Equal,
+            left: ZERO,
+            right: ZERO,
+        }),
+        facts: Few::none(BodyFact {
+            kind: 0,
+            arity: 0,
+            workings: [Working::Copy(ZERO); 3],
+        }),
         fails: false,
         band: 0,
         rank: ZERO,

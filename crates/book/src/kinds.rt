@@ -19,7 +19,9 @@ impl Kinds {
     pub fn none() -> Kinds
         ensures value { λ r. ⌜ r .arities ≡ replicate 32 None ⌝ }
     {
-        Kinds { arities: [None; 32] }
+        Kinds {
+            arities: [None; 32],
+        }
     }
 
     /// The arity of a declared kind.

@@ -1,7 +1,7 @@
-use rules::BodyFact;
 use records::parts::Guard;
 use records::parts::Head;
 use records::parts::Operand;
+use rules::BodyFact;
 
 /// What goes into the open rule.
 #[derive(Clone, Copy)]

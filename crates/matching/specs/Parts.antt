@@ -44,7 +44,7 @@ pub record Ready {S : Type 0} (sound : S → Type 0) (live : S → List Fact) (s
 
 abbrev pub Later : ℕ → Option Partner → Type 0
 Later from None = Unit {0}
-Later from (Some p) = from < p .after
+Later from (Some p) = (from < p .after) × (p .after < 4294967296)
 
 abbrev pub Partnered : Head → List ℕ → Env → List Fact → ℕ → Option Partner → Type 0
 Partnered h used e live from None = partners h used e (since from live) ≡ []

@@ -3,4 +3,5 @@ pub mod Setup
 pub mod Words
 pub mod Instances
 pub mod Enumeration
+pub mod Agreement
 pub mod Firing

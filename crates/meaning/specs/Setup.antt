@@ -3,8 +3,11 @@
 --                  answers, and the order's ranks, of a kind R of its own
 --     State        what the calls change: live facts in rising id, roll, next id, whether failed
 --     opening      the state in which a run opens
-use mathlib.Core.Bool.{Bool, false}
+--     Lawful       no rank is better than itself, better chains, and two ranks of which neither is
+--                  better stand alike to any third
+use mathlib.Core.Bool.{Bool, true, false}
 use mathlib.Core.List.{List, []}
+use mathlib.Core.Path.{_≡_}
 use Prim.Native.Nat.{ℕ}
 use lib.IntN.{ℤ}
 use Rattle.std.specs.declared.option.Option.{Option}
@@ -34,3 +37,8 @@ pub record State : Type 0 where
 
 abbrev pub opening : State
 opening = record { facts = []; roll = []; next = 1; failed = false }
+
+pub record Lawful {R : Type 0} (better : R → R → Bool) : Type 0 where
+  pub never : (a : R) → better a a ≡ false
+  pub chains : (a b c : R) → better a b ≡ true → better b c ≡ true → better a c ≡ true
+  pub level : (a b c : R) → better a b ≡ false → better b a ≡ false → (better c a ≡ better c b) × (better a c ≡ better b c)

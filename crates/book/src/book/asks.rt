@@ -3,8 +3,8 @@ ghost use mathlib.Core.List.{map};
 ghost use Rattle.rules.specs.Rules.{arity-of, rule-of};
 ghost use Rattle.book.specs.Books.{book-of};
 use crate::book::Book;
-use rules::Rule;
 use facts::Kind;
+use rules::Rule;
 
 impl Book {
     /// The rules, in file order: the first has number 1.

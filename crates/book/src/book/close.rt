@@ -19,7 +19,10 @@ impl Draft {
         let open = self.is_open();
         let Draft { tables, state: _ } = self;
         let Tables { kinds, rules } = tables;
-        Book { kinds, rules: finished(open, rules) }
+        Book {
+            kinds,
+            rules: finished(open, rules),
+        }
     }
 }
 

@@ -22,8 +22,14 @@ impl Draft {
         ensures value { λ r. ⌜ made r (λ d. draft-of d ≡ fresh) ⌝ }
     {
         let rules = Vec::with_capacity(heap, MOST_RULES)?;
-        let tables = Tables { kinds: Kinds::none(), rules };
-        Ok(Draft { tables, state: State::Between })
+        let tables = Tables {
+            kinds: Kinds::none(),
+            rules,
+        };
+        Ok(Draft {
+            tables,
+            state: State::Between,
+        })
     }
 
     /// Takes the first record of the bytes, and answers its kind; refused, it changes nothing.
@@ -50,7 +56,8 @@ impl Draft {
             (State::Heads | State::Guards, RecordKind::Guard) => Ok(State::Guards),
             (State::Heads | State::Guards | State::Facts, RecordKind::BodyFact) => Ok(State::Facts),
             (State::Heads | State::Guards, RecordKind::Fail) => Ok(State::Failing),
-            (State::Heads | State::Guards | State::Facts | State::Failing, RecordKind::RuleEnds) => Ok(State::Between),
+            (State::Heads | State::Guards | State::Facts | State::Failing, RecordKind::RuleEnds) =>
+                Ok(State::Between),
             _ => Err(Fault::MayNotFollow),
         }
     }

@@ -1,4 +1,6 @@
 ghost use mathlib.Core.Path.{_≡_};
+ghost use lib.Dec.{ltb};
+ghost use Rattle.std.specs.Of.Vec.{vec-len};
 ghost use Rattle.facts.specs.Positions.{all};
 ghost use Rattle.records.specs.declared.kinds.Record.the-variants as record-of;
 ghost use Rattle.rules.specs.Results.{told, kept-or};
@@ -8,7 +10,6 @@ use crate::draft::MOST_RULES;
 use crate::draft::Tables;
 use crate::grow::blank_rule;
 use crate::part::Part;
-use rules::BodyFact;
 use facts::Kind;
 use facts::positions::Position;
 use facts::positions::unused_clear;
@@ -22,6 +23,7 @@ use records::parts::Head;
 use records::parts::Operand;
 use records::parts::Operation;
 use records::parts::WorkingField;
+use rules::BodyFact;
 
 impl Tables {
     // Does what a record asks, or changes nothing.
@@ -46,11 +48,18 @@ impl Tables {
         ensures value { λ r. ⌜ r ≡ told (entered (tables-of (now (self .entry))) record-of.RuleBegins) ⌝ }
         ensures after { λ _. ⌜ tables-of (now (self .exit)) ≡ kept-or (entered (tables-of (now (self .entry))) record-of.RuleBegins) (tables-of (now (self .entry))) ⌝ }
     {
-        if self.rules.len() >= MOST_RULES {
+        if !self.has_room() {
             return Err(Fault::TooMany);
         }
         self.rules.push_reserved(blank_rule());
         Ok(())
+    }
+
+    // Whether there is a place for one rule more.
+    fn has_room(&self) -> bool
+        ensures value { λ r. ⌜ r ≡ ltb (vec-len (now (self .entry) .rules)) 64 ⌝ }
+    {
+        self.rules.len() < MOST_RULES
     }
 
     fn enter_head(&mut self, head: Head) -> Result<(), Fault>
@@ -115,7 +124,11 @@ fn body_fact(arity: u8, field: BodyField) -> BodyFact
     ensures value { λ r. ⌜ r ≡ body-fact arity field ⌝ }
 {
     let [a, b, c] = field.workings;
-    BodyFact { kind: field.kind, arity, workings: [working(a), working(b), working(c)] }
+    BodyFact {
+        kind: field.kind,
+        arity,
+        workings: [working(a), working(b), working(c)],
+    }
 }
 
 fn working(field: WorkingField) -> Working<Operand>

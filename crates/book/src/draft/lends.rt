@@ -17,8 +17,8 @@ ghost use Rattle.book.specs.Held.{tables-of, with-last};
 use crate::draft::Tables;
 use crate::grow::add;
 use crate::part::Part;
-use rules::Rule;
 use records::fault::Fault;
+use rules::Rule;
 
 impl Tables {
     // The last rule, to be changed in its place: what the borrower leaves there is what the tables

@@ -15,10 +15,13 @@ ghost-result c =
     let rs = vec-items (c .args .self .tables .rules) in
     let e = c .finished .ensures .items ∙ ap (λ o. cond o (take (length rs - 1) rs) rs) (c .is-open-open .ensures .value) in
     let m = ended-map (c .args .self .state) rs _ e in
-    let all-rules = draft-of (c .args .self) .tables .rules in
-    (omega arith,
-      (ap (all closed) m ∙ ended-closed (c .args .self .state) all-rules (c .args .self .sound),
-        (ap (all small) m ∙ ended-small (c .args .self .state) all-rules (c .args .self .sound), tt)))
+    let all-rules = draft-of (c .args .self) .tables .rules in (
+      omega arith,
+      (
+        ap (all closed) m ∙ ended-closed (c .args .self .state) all-rules (c .args .self .sound),
+        (ap (all small) m ∙ ended-small (c .args .self .state) all-rules (c .args .self .sound), tt),
+      ),
+    )
 
 pub returns : need.returns
 returns c =
