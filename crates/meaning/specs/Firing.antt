@@ -1,12 +1,13 @@
 -- What a firing does, and when it is refused. Assumes nothing.
 --     bindings live hs is e    e with each head bound to the live fact of its id
 --     put e w                  a working with its operands' numbers
---     worked-out s e f n       the values of the body fact f, the n-th, or the fault
---     body-of s e fs n         the body facts as kind and values, or the first fault
+--     worked-out works e ws n k   the values of the workings ws of the n-th body fact, the first
+--                              of them the k-th, or the first fault
+--     body-of works e fs n     the body facts as kind and values, the first of them the n-th, or
+--                              the first fault
 --     taken-ids hs is          the ids of the heads that are taken
 --     fire s t n is            the state after the firing of rule n with the ids is, or its refusal:
 --                              body, then rows, then roll; a rule with fail wants only the roll
---     Stepped, step-of         what a step answers and leaves
 --     hand-in s t k vs         the state after a hand-in, under the next id, or its refusal
 use mathlib.Core.Bool.{Bool, true, false, cond}
 use mathlib.Core.List.{List, [], _∷_, _++_}
@@ -35,6 +36,7 @@ use Rattle.meaning.specs.declared.refusal.Refusal.the-variants as refusal
 use Rattle.meaning.specs.declared.refusal.Site.the-variants as site
 use Rattle.meaning.specs.declared.refusal.WorkingFault.{WorkingFault}
 use Rattle.meaning.specs.declared.roll.Entry.the-variants.{HandedIn, Fired}
+use Rattle.meaning.specs.declared.written.Written.{Written}
 use Rattle.meaning.specs.declared.due.Due.{Due}
 use Rattle.meaning.specs.Setup.{Setup, State}
 use Rattle.meaning.specs.Enumeration.{Env, unbound, agreed, worth}
@@ -61,10 +63,6 @@ abbrev pub placed : ℕ → ℕ → Result ℤ Cause → Result ℤ WorkingFault
 placed n k (Ok v) = Ok v
 placed n k (Err c) = Err (record { fact = n; working = k; cause = c })
 
-pub record Written : Type 0 where
-  pub kind : ℕ
-  pub values : List ℤ
-
 -- three values, 0 where a position is unused
 abbrev pub filled : List ℤ → List ℤ
 filled vs = take 3 (vs ++ pos 0 ∷ pos 0 ∷ pos 0 ∷ [])
@@ -73,11 +71,11 @@ abbrev pub of-rule : {A : Type 0} → ℕ → Result A WorkingFault → Result A
 of-rule n (Ok x) = Ok x
 of-rule n (Err f) = Err (refusal.Body n f)
 
-module _ {R : Type 0} (s : Setup R) where
+module _ (works : Working ℤ → Result ℤ Cause) where
   abbrev pub worked-out : Env → List (Working Operand) → ℕ → ℕ → Result (List ℤ) WorkingFault
   worked-out e [] n k = Ok []
   worked-out e (w ∷ ws) n k =
-      and-then (placed n k (s .works (put e w))) (λ v.
+      and-then (placed n k (works (put e w))) (λ v.
       and-then (worked-out e ws n (suc k)) (λ vs.
       Ok (v ∷ vs)))
 
@@ -126,7 +124,7 @@ module _ {R : Type 0} (s : Setup R) (t : State) where
 
   abbrev pub body-worked : Rule → ℕ → List ℕ → Result (List Written) Refusal
   body-worked r n is =
-      cond (r .fails) (Ok []) (of-rule n (body-of s (bindings (t .facts) (r .heads) is unbound) (r .facts) 1))
+      cond (r .fails) (Ok []) (of-rule n (body-of (s .works) (bindings (t .facts) (r .heads) is unbound) (r .facts) 1))
 
   abbrev pub fire : ℕ → List ℕ → Result State Refusal
   fire n is =

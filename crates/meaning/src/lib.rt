@@ -11,3 +11,4 @@ pub mod due;
 pub mod laws;
 pub mod refusal;
 pub mod roll;
+pub mod written;

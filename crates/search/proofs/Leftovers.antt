@@ -1,8 +1,8 @@
 -- What is left after a step gives the same answer.
 use mathlib.Core.Bool.{Bool, true, false, cond, not, _&&_}
 use mathlib.Core.List.{List, [], _∷_, _++_, append-assoc, append-nil}
-use mathlib.Core.Path.{_≡_, refl, sym, ap, _∙_}
-use Prim.Native.Nat.{ℕ, suc, _+_, _-_, _<_, _≤_}
+use mathlib.Core.Path.{_≡_, refl, sym, ap, subst, _∙_}
+use Prim.Native.Nat.{ℕ, zero, suc, _+_, _-_, _<_, _≤_}
 use native.Mathlib.Nat.{add-suc, add-zero}
 use native.Mathlib.Omega.{arith}
 use lib.ListN.{length, getD, set, take, drop}
@@ -25,7 +25,7 @@ use Rattle.matching.specs.Parts.{considered, improving, yes}
 use Rattle.matching.proofs.Arrays.{four-items}
 use Rattle.search.specs.declared.walk.Level.{Level}
 use Rattle.search.specs.Offers.{offered}
-use Rattle.search.specs.Walks.{head-at, rest, left-over, Blank, Blanks}
+use Rattle.search.specs.Walks.{no-head, head-at, rest, left-over, Blank, Blanks}
 use Rattle.search.proofs.Lists.{joined-append, folded-append}
 
 -- Offers, one after the other
@@ -85,11 +85,54 @@ module _ (live : List Fact) (hs : List Head) where
   pub rest-last : (j : ℕ) (used : List ℕ) (e : Env) → j + 1 ≡ length hs → instances live (drop (suc j) hs) used e ≡ record { ids = used; env = e } ∷ []
   rest-last j used e h =
       let k : length hs ≤ suc j = omega arith in
-      ap (λ xs. instances live xs used e) (drop-all hs (suc j) k)
+      ap (λ xs. instances live xs used e) (drop-all (suc j) hs k)
 
   -- the next head begins with all the live facts
   pub rest-next : (j : ℕ) (used : List ℕ) (e : Env) (c : Level) → j < length hs → take j (c .ids) ≡ used → c .env ≡ e → c .from ≡ 0
     → instances live (drop j hs) used e ≡ rest live hs j c
   rest-next j used e c h ids env start =
-      ap (λ xs. instances live xs used e) (drop-more hs j (head-at hs j) h)
-      ∙ ?
+      let o : j + 1 ≡ suc j = omega arith in
+      ap (λ xs. instances live xs used e) (drop-more hs j no-head h)
+      ∙ ap (λ k. joined (λ (p : Partner). instances live (drop k hs) (used ++ p .id ∷ []) (p .env)) (partners (head-at hs j) used e live)) o
+      ∙ ap (λ u. joined (deeper j u) (partners (head-at hs j) u e live)) (sym ids)
+      ∙ ap (λ v. joined (deeper j (take j (c .ids))) (partners (head-at hs j) (take j (c .ids)) v live)) (sym env)
+      ∙ ap (λ fs. joined (deeper j (take j (c .ids))) (partners (head-at hs j) (take j (c .ids)) (c .env) fs)) (sym (since-zero live))
+      ∙ ap (λ i. joined (deeper j (take j (c .ids))) (partners (head-at hs j) (take j (c .ids)) (c .env) (since i live))) (sym start)
+
+-- The ids of a level
+
+pub blanks-push : (j : ℕ) (ls : List Level) (l : Level) → Blanks j ls → Blank (j + length ls) l → Blanks j (ls ++ l ∷ [])
+blanks-push j [] l b h = (let e : j + 0 ≡ j = omega arith in subst (λ i. Blank i l) e h, tt)
+blanks-push j (x ∷ ls) l b h =
+    (b .0, blanks-push (suc j) ls l (b .1) (let e : j + suc (length ls) ≡ suc j + length ls = omega arith in subst (λ i. Blank i l) e h))
+
+pub blanks-front : (j : ℕ) (ls : List Level) (l : Level) → Blanks j (ls ++ l ∷ []) → Blanks j ls
+blanks-front j [] l b = tt
+blanks-front j (x ∷ ls) l b = (b .0, blanks-front (suc j) ls l (b .1))
+
+pub blanks-last : (j : ℕ) (ls : List Level) (l : Level) → Blanks j (ls ++ l ∷ []) → Blank (j + length ls) l
+blanks-last j [] l b = let e : j ≡ j + 0 = omega arith in subst (λ i. Blank i l) e (b .0)
+blanks-last j (x ∷ ls) l b = let e : suc j + length ls ≡ j + suc (length ls) = omega arith in subst (λ i. Blank i l) e (blanks-last (suc j) ls l (b .1))
+
+pub padded-length : (is : List ℕ) → length (padded is) ≡ 4
+padded-length [] = refl
+padded-length (a ∷ []) = refl
+padded-length (a ∷ b ∷ []) = refl
+padded-length (a ∷ b ∷ c ∷ []) = refl
+padded-length (a ∷ b ∷ c ∷ d ∷ is) = refl
+
+-- an id put at the place after those chosen
+pub padded-set : (j i : ℕ) (is : List ℕ) → j < 4 → is ≡ padded (take j is) → set is j i ≡ padded (take j is ++ i ∷ [])
+padded-set j i is h b = ap (λ xs. set xs j i) b ∙ go j is h (ap length b ∙ padded-length (take j is)) where
+  go : (j : ℕ) (is : List ℕ) → j < 4 → length is ≡ 4 → set (padded (take j is)) j i ≡ padded (take j is ++ i ∷ [])
+  go zero is h l = refl
+  go (suc zero) [] h l = absurd (omega (arith, l))
+  go (suc zero) (a ∷ is) h l = refl
+  go (suc (suc zero)) [] h l = absurd (omega (arith, l))
+  go (suc (suc zero)) (a ∷ []) h l = absurd (omega (arith, l))
+  go (suc (suc zero)) (a ∷ b ∷ is) h l = refl
+  go (suc (suc (suc zero))) [] h l = absurd (omega (arith, l))
+  go (suc (suc (suc zero))) (a ∷ []) h l = absurd (omega (arith, l))
+  go (suc (suc (suc zero))) (a ∷ b ∷ []) h l = absurd (omega (arith, l))
+  go (suc (suc (suc zero))) (a ∷ b ∷ c ∷ is) h l = refl
+  go (suc (suc (suc (suc j)))) is h l = absurd (omega (arith, h))

@@ -1,3 +1,5 @@
 pub mod Lists
 pub mod Weights
 pub mod Leftovers
+pub mod Steps
+pub mod Advances

@@ -28,9 +28,11 @@ use Rattle.search.specs.declared.walk.Level.{Level}
 use Rattle.search.specs.declared.walk.Walk.{Walk}
 use Rattle.search.specs.Offers.{offered}
 
--- the head at a place; of no kind and without operands past the end
+abbrev pub no-head : Head
+no-head = record { taken = false; kind = 0; operands = [] }
+
 abbrev pub head-at : List Head → ℕ → Head
-head-at hs j = getD hs j (record { taken = false; kind = 0; operands = [] })
+head-at hs j = getD hs j no-head
 
 abbrev pub rest : List Fact → List Head → ℕ → Level → List Match
 rest live hs j l =
