@@ -13,5 +13,5 @@ numbered n w = record { id = n; kind = w .kind; values = w .values }
 
 pub record Room (live : List Fact) (rows next : ℕ) (ws : List Written) : Type 0 where
   pub above : Above next live
-  pub rows : length live + length ws ≤ rows
+  pub free : length live + length ws ≤ rows
   pub ids : next + length ws < 4294967296

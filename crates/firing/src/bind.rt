@@ -18,7 +18,8 @@ pub fn bindings<S: Store>(store: &S, heads: &[Head], ids: [Id; 4]) -> Env
         if i >= ids.len() {
             return env;
         }
-        env = bound_to(store, heads[i], ids[i], env);
+        let bound = bound_to(store, heads[i], ids[i], env);
+        env = bound;
     }
     env
 }

@@ -34,5 +34,6 @@ pub fn add_fact<S: Store>(store: &mut S, fact: Written, id: Id) -> Result<(), No
     ensures live { λ r. ⌜ (S·Store.sound (now (store .entry)) → Added (numbered id fact) (S·Store.live (now (store .entry))) (S·Store.rows (now (store .entry))) (isOk r) (S·Store.live (now (store .exit)))) ⌝ }
     ensures rows { λ _. ⌜ S·Store.rows (now (store .exit)) ≡ S·Store.rows (now (store .entry)) ⌝ }
 {
-    store.add(Fact { id, kind: fact.kind, values: fact.values })
+    let values = fact.values;
+    store.add(Fact { id, kind: fact.kind, values })
 }

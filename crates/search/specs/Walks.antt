@@ -2,6 +2,7 @@
 --     rest live hs j l        what the level l of the head at place j has still to offer
 --     left-over live hs j ls  what the levels ls, the first of the head at place j, have still to
 --                             offer: the deepest first
+--     first-level             the level of the first head, with no partner chosen yet
 --     level-after l j p       the level of the next head, with the partner p for the head at place j
 --     Blank j l               the ids of l are those of the heads before place j, and 0 from there on
 --     weight k ls             falls with every step of the search
@@ -16,7 +17,7 @@ use lib.ListN.{length, getD, set, take, drop}
 use Rattle.std.specs.Joined.{joined}
 use Rattle.facts.specs.declared.Fact.{Fact}
 use Rattle.records.specs.declared.parts.Head.{Head}
-use Rattle.meaning.specs.Enumeration.{Env, Match, instances, partners}
+use Rattle.meaning.specs.Enumeration.{Env, Match, instances, partners, unbound}
 use Rattle.meaning.specs.Instances.{padded}
 use Rattle.meaning.specs.Setup.{Setup, State}
 use Rattle.meaning.specs.declared.due.Due.{Due}
@@ -42,6 +43,9 @@ rest live hs j l =
 abbrev pub left-over : List Fact → List Head → ℕ → List Level → List Match
 left-over live hs j [] = []
 left-over live hs j (l ∷ ls) = left-over live hs (suc j) ls ++ rest live hs j l
+
+abbrev pub first-level : Level
+first-level = record { ids = 0 ∷ 0 ∷ 0 ∷ 0 ∷ []; env = unbound; from = 0 }
 
 abbrev pub level-after : Level → ℕ → Partner → Level
 level-after l j p = record { ids = set (l .ids) j (p .id); env = p .env; from = 0 }

@@ -5,4 +5,5 @@
 //! answers is the due instance of the definitions. Below stands matching; above, the run.
 
 
+pub mod due;
 pub mod walk;

@@ -3,8 +3,8 @@ ghost use mathlib.Core.Path.{_≡_};
 ghost use lib.ListN.{length};
 use facts::Id;
 use matching::env::Env;
-use matching::env::UNBOUND;
 mod advance;
+pub mod over;
 
 /// Where the search stands at one head: the partners chosen for the heads before it, their
 /// bindings, and the id from which it looks on.

@@ -7,7 +7,7 @@ ghost use Rattle.rules.specs.Rules.{rule-of};
 ghost use Rattle.matching.specs.Parts.{Ready, Later, Partnered};
 ghost use Rattle.few.specs.Few.{listed};
 ghost use Rattle.search.specs.Offers.{asking, seeing};
-ghost use Rattle.search.specs.Walks.{level-after, levels-of, weight, Advanced};
+ghost use Rattle.search.specs.Walks.{first-level, level-after, levels-of, weight, Advanced};
 use crate::walk::Level;
 use crate::walk::Walk;
 use facts::Id;
@@ -27,7 +27,7 @@ use store::Store;
 impl Level {
     /// The first head, with no partner chosen yet.
     pub fn first() -> Level
-        ensures value { λ r. ⌜ r ≡ record { ids = 0 ∷ 0 ∷ 0 ∷ 0 ∷ []; env = replicate 12 None; from = 0 } ⌝ }
+        ensures value { λ r. ⌜ r ≡ first-level ⌝ }
     {
         Level { ids: [0; 4], env: UNBOUND, from: 0 }
     }

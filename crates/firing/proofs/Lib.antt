@@ -1,0 +1,3 @@
+pub mod Bodies
+pub mod Paired
+pub mod Rooms
