@@ -1,5 +1,4 @@
 -- A body worked out: position by position, and fact by fact.
-use mathlib.Core.Bool.{cond}
 use mathlib.Core.List.{List, [], _∷_, _++_, append-assoc, append-nil}
 use mathlib.Core.Path.{_≡_, refl, sym, ap, _∙_}
 use Prim.Native.Nat.{ℕ, zero, suc, _+_, _<_, _≤_}
@@ -81,10 +80,13 @@ module _ (works : Working ℤ → Result ℤ Cause) (e : Env) where
   by-arity (suc (suc (suc zero))) kind n w₁ w₂ w₃ = all-used 3 kind n w₁ w₂ w₃ (omega arith)
   by-arity (suc (suc (suc (suc a)))) kind n w₁ w₂ w₃ = all-used (suc (suc (suc (suc a)))) kind n w₁ w₂ w₃ (omega arith)
 
-  pub three-values-written : (f : BodyFact) (n : ℕ) → length (f .workings) ≡ 3 → three-values works e f n ≡ written works e f n
+  three-values-written : (f : BodyFact) (n : ℕ) → length (f .workings) ≡ 3 → three-values works e f n ≡ written works e f n
   three-values-written f n l =
       by-arity (f .arity) (f .kind) n (getD (f .workings) 0 blank-working) (getD (f .workings) 1 blank-working) (getD (f .workings) 2 blank-working)
       ∙ ap (λ ws. and-then (worked-out works e (take (f .arity) ws) n 1) (λ vs. Ok (one (f .kind) vs))) (sym (three-items (f .workings) blank-working l))
+
+  pub worked-out-written : (f : BodyFact) (n : ℕ) (r : Result Written WorkingFault) → length (f .workings) ≡ 3 → r ≡ three-values works e f n → r ≡ written works e f n
+  worked-out-written f n r l h = h ∙ three-values-written f n l
 
   -- what is done, then the facts that are left
   abbrev pub onward : List Written → List BodyFact → ℕ → Result (List Written) WorkingFault
@@ -101,9 +103,9 @@ module _ (works : Working ℤ → Result ℤ Cause) (e : Env) where
       ap (λ r. and-then (and-then r (λ v. and-then (body-of works e fs (suc n)) (λ vs. Ok (v ∷ vs)))) (λ more. Ok (ws ++ more))) (sym h)
       ∙ go (body-of works e fs (suc n))
     where
-    go : (r : Result (List Written) WorkingFault) → and-then (and-then r (λ vs. Ok (w ∷ vs))) (λ more. Ok (ws ++ more)) ≡ and-then r (λ more. Ok ((ws ++ w ∷ []) ++ more))
-    go (Ok more) = ap Ok (sym (append-assoc ws (w ∷ []) more))
-    go (Err x) = refl
+      go : (r : Result (List Written) WorkingFault) → and-then (and-then r (λ vs. Ok (w ∷ vs))) (λ more. Ok (ws ++ more)) ≡ and-then r (λ more. Ok ((ws ++ w ∷ []) ++ more))
+      go (Ok more) = ap Ok (sym (append-assoc ws (w ∷ []) more))
+      go (Err x) = refl
 
   pub onward-fault : (ws : List Written) (f : BodyFact) (fs : List BodyFact) (n : ℕ) (x : WorkingFault) → Err x ≡ written works e f n → onward ws (f ∷ fs) n ≡ Err x
   onward-fault ws f fs n x h =

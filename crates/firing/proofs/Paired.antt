@@ -1,8 +1,8 @@
 -- The heads of an instance with their ids: one more of them, and the end.
 use mathlib.Core.Bool.{Bool, true, false, cond}
-use mathlib.Core.List.{List, [], _∷_, _++_}
+use mathlib.Core.List.{List, [], _∷_}
 use mathlib.Core.Path.{_≡_, refl, sym, ap, _∙_}
-use Prim.Native.Nat.{ℕ, suc, _+_, _<_, _≤_}
+use Prim.Native.Nat.{ℕ, _+_, _<_, _≤_}
 use native.Mathlib.Omega.{arith}
 use lib.ListN.{length, getD, drop}
 use Rattle.std.proofs.shelf.Lists.{at-drop-more, at-drop-all}
@@ -63,9 +63,9 @@ module _ (hs : List Head) (is : List ℕ) (i : ℕ) where
       ap (λ x. n + length x) (left-more taken-ids hs is i d l m)
       ∙ go (getD hs i d .taken) (getD is i 0) (taken-ids (drop (i + 1) hs) (drop (i + 1) is)) q
     where
-    go : (t : Bool) (j : ℕ) (js : List ℕ) → one ≡ cond t 1 0 → n + length (cond t (j ∷ js) js) ≡ n + one + length js
-    go true j js q = omega arith
-    go false j js q = omega arith
+      go : (t : Bool) (j : ℕ) (js : List ℕ) → one ≡ cond t 1 0 → n + length (cond t (j ∷ js) js) ≡ n + one + length js
+      go true j js q = omega arith
+      go false j js q = omega arith
 
   pub count-within : (d : Head) (n one : ℕ) → n ≤ i → one ≡ cond (getD hs i d .taken) 1 0 → n + one ≤ i + 1
   count-within d n one l q = go (getD hs i d .taken) q where
@@ -80,6 +80,6 @@ module _ (hs : List Head) (is : List ℕ) (i : ℕ) where
       left-more (λ xs ys. taking-off (taken-ids xs ys) fs) hs is i d l m
       ∙ go (getD hs i d .taken) (getD is i 0) (taken-ids (drop (i + 1) hs) (drop (i + 1) is)) q
     where
-    go : (t : Bool) (j : ℕ) (js : List ℕ) → gs ≡ cond t (without j fs) fs → taking-off (cond t (j ∷ js) js) fs ≡ taking-off js gs
-    go true j js q = ap (taking-off js) (sym q)
-    go false j js q = ap (taking-off js) (sym q)
+      go : (t : Bool) (j : ℕ) (js : List ℕ) → gs ≡ cond t (without j fs) fs → taking-off (cond t (j ∷ js) js) fs ≡ taking-off js gs
+      go true j js q = ap (taking-off js) (sym q)
+      go false j js q = ap (taking-off js) (sym q)

@@ -1,16 +1,15 @@
 -- Writing a body: there is room for each fact in its turn.
-use mathlib.Core.Bool.{Bool, true, false, cond}
+use mathlib.Core.Bool.{true, false}
 use mathlib.Core.List.{List, [], _∷_, _++_, append-assoc, append-nil}
-use mathlib.Core.Path.{_≡_, refl, sym, ap, subst, _∙_}
+use mathlib.Core.Path.{_≡_, sym, ap, subst, _∙_}
 use Prim.Native.Nat.{ℕ, suc, _+_, _<_, _≤_}
 use native.Mathlib.Numerals.{add-one}
 use native.Mathlib.Omega.{arith}
-use lib.Dec.{ltb}
 use lib.ListN.{length, getD, drop}
 use Rattle.std.proofs.shelf.Lists.{drop-more, at-drop-more, at-drop-all, length-push}
 use Rattle.std.proofs.shelf.Tests.{lt-ltb}
 use Rattle.facts.specs.declared.Fact.{Fact}
-use Rattle.store.specs.Store.{Above, Added}
+use Rattle.store.specs.Store.{Added}
 use Rattle.store.proofs.Rises.{above-higher, above-push}
 use Rattle.meaning.specs.declared.written.Written.{Written}
 use Rattle.meaning.specs.Firing.{numbered-from}

@@ -29,6 +29,9 @@ use Rattle.meaning.specs.Firing.{put, placed}
 abbrev pub blank-working : Working Operand
 blank-working = working.Copy (Constant (pos 0))
 
+abbrev pub blank-fact : BodyFact
+blank-fact = record { kind = 0; arity = 0; workings = [] }
+
 module _ (works : Working ℤ → Result ℤ Cause) where
   abbrev pub value-at : Env → ℕ → ℕ → ℕ → Working Operand → Result ℤ WorkingFault
   value-at e a n k w = cond (ltb a k) (Ok (pos 0)) (placed n k (works (put e w)))

@@ -24,8 +24,8 @@ pub fn bindings<S: Store>(store: &S, heads: &[Head], ids: [Id; 4]) -> Env
     env
 }
 
-/// The bindings with a head bound to the live fact of an id; the same where it does not agree.
-pub fn bound_to<S: Store>(store: &S, head: Head, id: Id, env: Env) -> Env
+// The bindings with a head bound to the live fact of an id; the same where it does not agree.
+fn bound_to<S: Store>(store: &S, head: Head, id: Id, env: Env) -> Env
     ensures value { λ r. ⌜ (S·Store.sound (now (store .entry)) → r ≡ bound-to head (find id (S·Store.live (now (store .entry)))) env) ⌝ }
 {
     match store.read(id) {

@@ -25,7 +25,11 @@ pub fn with_place<T, F>(fact: u8, working: u8, r: Result<T, F>) -> Result<T, At<
 {
     match r {
         Ok(value) => Ok(value),
-        Err(fault) => Err(At { fact, working, fault }),
+        Err(fault) => Err(At {
+            fact,
+            working,
+            fault,
+        }),
     }
 }
 
@@ -44,7 +48,11 @@ pub impl From<At<Cause>> for WorkingFault as WorkingFaultFromCause {
     ghost converts = { λ x y. y ≡ working-fault x };
 
     fn from(at: At<Cause>) -> WorkingFault {
-        WorkingFault { fact: at.fact, working: at.working, cause: at.fault }
+        WorkingFault {
+            fact: at.fact,
+            working: at.working,
+            cause: at.fault,
+        }
     }
 }
 
@@ -53,6 +61,9 @@ pub impl From<OfRule> for Refusal as RefusalFromBody {
     ghost converts = { λ x y. y ≡ refused-body x };
 
     fn from(of: OfRule) -> Refusal {
-        Refusal::Body { rule: of.rule, fault: of.fault }
+        Refusal::Body {
+            rule: of.rule,
+            fault: of.fault,
+        }
     }
 }

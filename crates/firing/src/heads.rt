@@ -1,6 +1,5 @@
 ghost use mathlib.Core.Path.{_≡_};
 ghost use mathlib.Core.Bool.{cond};
-ghost use Prim.Native.Nat.{_+_};
 ghost use lib.ListN.{length};
 ghost use Rattle.store.specs.Store.{without};
 ghost use Rattle.meaning.specs.Firing.{taken-ids, taking-off};
@@ -43,13 +42,14 @@ pub fn take_heads<S: Store>(store: &mut S, heads: &[Head], ids: [Id; 4])
     }
 }
 
-/// Takes the fact of a head that is taken; leaves that of one that is kept.
-pub fn take_head<S: Store>(store: &mut S, head: Head, id: Id)
+// Takes the fact of a head that is taken; leaves that of one that is kept.
+fn take_head<S: Store>(store: &mut S, head: Head, id: Id)
     ensures sound { λ _. ⌜ (S·Store.sound (now (store .entry)) → S·Store.sound (now (store .exit))) ⌝ }
     ensures live { λ _. ⌜ (S·Store.sound (now (store .entry)) → S·Store.live (now (store .exit)) ≡ cond (head .taken) (without id (S·Store.live (now (store .entry)))) (S·Store.live (now (store .entry)))) ⌝ }
     ensures rows { λ _. ⌜ S·Store.rows (now (store .exit)) ≡ S·Store.rows (now (store .entry)) ⌝ }
 {
-    if head.taken {
-        let _taken = store.take(id);
+    if !head.taken {
+        return;
     }
+    let _taken = store.take(id);
 }

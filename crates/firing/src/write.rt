@@ -3,7 +3,7 @@ ghost use mathlib.Core.List.{_++_};
 ghost use Rattle.std.specs.Results.{isOk};
 ghost use Rattle.store.specs.Store.{Added};
 ghost use Rattle.meaning.specs.Firing.{numbered-from};
-ghost use Rattle.firing.specs.Room.{Room, numbered};
+ghost use Rattle.firing.specs.Room.{Room, After, numbered};
 use facts::Fact;
 use facts::Id;
 use meaning::written::Written;
@@ -21,19 +21,30 @@ pub fn write_body<S: Store>(store: &mut S, facts: &[Written], next: Id)
         let Ok(()) = add_fact(store, facts[i], id) else {
             return;
         };
-        let Some(after) = id.checked_add(1) else {
+        let Some(after) = id_after(id) else {
             return;
         };
         id = after;
     }
 }
 
-/// Adds a fact at the end of the store under an id.
-pub fn add_fact<S: Store>(store: &mut S, fact: Written, id: Id) -> Result<(), NoRow>
+// Adds a fact at the end of the store under an id.
+fn add_fact<S: Store>(store: &mut S, fact: Written, id: Id) -> Result<(), NoRow>
     ensures sound { λ _. ⌜ (S·Store.sound (now (store .entry)) → S·Store.sound (now (store .exit))) ⌝ }
     ensures live { λ r. ⌜ (S·Store.sound (now (store .entry)) → Added (numbered id fact) (S·Store.live (now (store .entry))) (S·Store.rows (now (store .entry))) (isOk r) (S·Store.live (now (store .exit)))) ⌝ }
     ensures rows { λ _. ⌜ S·Store.rows (now (store .exit)) ≡ S·Store.rows (now (store .entry)) ⌝ }
 {
     let values = fact.values;
-    store.add(Fact { id, kind: fact.kind, values })
+    store.add(Fact {
+        id,
+        kind: fact.kind,
+        values,
+    })
+}
+
+// The id after an id, if there is one.
+fn id_after(id: Id) -> Option<Id>
+    ensures value { λ r. ⌜ After id r ⌝ }
+{
+    id.checked_add(1)
 }

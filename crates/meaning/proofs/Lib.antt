@@ -5,3 +5,10 @@ pub mod Rows
 pub mod Firsts
 pub mod Listed
 pub mod Agreement
+pub mod PublishedHeads
+pub mod PublishedRoll
+pub mod PublishedBody
+pub mod PublishedStore
+pub mod PublishedReady
+pub mod PublishedCalls
+pub mod Published

@@ -5,3 +5,5 @@ pub mod Instances
 pub mod Enumeration
 pub mod Agreement
 pub mod Firing
+pub mod Calls
+pub mod Published

@@ -7,6 +7,7 @@
 //! refused). Below stand facts, hosts and rules; above, the search and the run, which are proved
 //! to do what is said here.
 
+pub mod answers;
 pub mod due;
 pub mod laws;
 pub mod refusal;

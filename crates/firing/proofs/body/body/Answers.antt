@@ -1,6 +1,4 @@
-use mathlib.Core.Path.{_≡_, sym, ap, _∙_}
-use native.Mathlib.Omega.{arith}
-use borrow.Author.Needs.{needs}
+use mathlib.Core.Path.{sym, ap, _∙_}
 use lib.ListN.{length, drop}
 use Prim.Native.Nat.{_+_}
 use Rattle.std.proofs.shelf.Lists.{length-push}
@@ -17,11 +15,12 @@ returns-in-Break-one g c =
     })
 
 pub loop-i-again : need.loop-i-again
-loop-i-again g c =
-    (ap length (c .in-Ok .ensures tt .items) ∙ length-push (listed (c .loop-i .done)) (c .in-Continue-one .one) ∙ ap (λ n. n + 1) (c .loop-i .inv .0),
-     ap (λ ws. onward (g .H·Host .works (c .args .host .now)) (c .args .env) ws (drop (c .loop-i .i + 1) (c .args .facts .now)) (c .loop-i .i + 1 + 1)) (c .in-Ok .ensures tt .items)
-     ∙ sym (onward-more (g .H·Host .works (c .args .host .now)) (c .args .env) _ _ _ _ _ (c .loop-i-test .taken) (c .in-Continue-one .ensures tt .value))
-     ∙ c .loop-i .inv .1)
+loop-i-again g c = (
+  ap length (c .in-Ok .ensures tt .items) ∙ length-push (listed (c .loop-i .done)) (c .in-Continue-one .one) ∙ ap (λ n. n + 1) (c .loop-i .inv .0),
+  ap (λ ws. onward (g .H·Host .works (c .args .host .now)) (c .args .env) ws (drop (c .loop-i .i + 1) (c .args .facts .now)) (c .loop-i .i + 1 + 1)) (c .in-Ok .ensures tt .items)
+      ∙ sym (onward-more (g .H·Host .works (c .args .host .now)) (c .args .env) _ _ _ _ _ (c .loop-i-test .taken) (c .in-Continue-one .ensures tt .value))
+      ∙ c .loop-i .inv .1,
+)
 
 pub returns : need.returns
 returns g c = record {

@@ -20,10 +20,11 @@ returns-then-i-ge4 g c =
 pub loop-i-again : need.loop-i-again
 loop-i-again g c =
     let n : length (c .args .ids) ≡ 4 = search needs in
-    let l : c .loop-i .i < length (c .args .ids) = omega (arith, c .if-i-ge4 .left) in
-    (λ s. c .take-head .ensures .sound (c .loop-i .inv .0 s),
-     λ s. sym (off-more _ _ _ _ _ _ (c .loop-i-test .taken) l (c .take-head .ensures .live (c .loop-i .inv .0 s))) ∙ c .loop-i .inv .1 s,
-     c .take-head .ensures .rows ∙ c .loop-i .inv .2)
+    let l : c .loop-i .i < length (c .args .ids) = omega (arith, c .if-i-ge4 .left) in (
+      λ s. c .take-head .ensures .sound (c .loop-i .inv .0 s),
+      λ s. sym (off-more _ _ _ _ _ _ (c .loop-i-test .taken) l (c .take-head .ensures .live (c .loop-i .inv .0 s))) ∙ c .loop-i .inv .1 s,
+      c .take-head .ensures .rows ∙ c .loop-i .inv .2,
+    )
 
 pub returns : need.returns
 returns g c = record {

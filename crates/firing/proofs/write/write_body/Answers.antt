@@ -1,4 +1,4 @@
-use mathlib.Core.Path.{_≡_, sym, subst, _∙_}
+use mathlib.Core.Path.{sym, subst, _∙_}
 use mathlib.Core.List.{[]}
 use Prim.Native.Nat.{_+_}
 use lib.ListN.{drop}
@@ -13,10 +13,10 @@ returns-in-rest g c = record {
   rows = c .in-rest .ensures tt .rows ∙ c .loop-i .inv .3;
 }
 
-pub returns-in-rest-checked-add : need.returns-in-rest-checked-add
-returns-in-rest-checked-add g c = record {
+pub returns-in-rest-id-after : need.returns-in-rest-id-after
+returns-in-rest-id-after g c = record {
   sound = λ s. c .in-Ok .ensures tt .sound (c .loop-i .inv .0 s);
-  live = λ s r. absurd (never-last _ _ _ _ _ (record { kind = 0; values = [] }) (c .loop-i-test .taken) (c .loop-i .inv .1 s r) (c .in-rest-checked-add .ensures tt));
+  live = λ s r. absurd (never-last _ _ _ _ _ (record { kind = 0; values = [] }) (c .loop-i-test .taken) (c .loop-i .inv .1 s r) (c .in-rest-id-after .ensures tt .value));
   rows = c .in-Ok .ensures tt .rows ∙ c .loop-i .inv .3;
 }
 
@@ -25,11 +25,12 @@ loop-i-again g c = (
   λ s. c .in-Ok .ensures tt .sound (c .loop-i .inv .0 s),
   λ s r.
       subst (λ n. Room (g .S·Store .live (c .add-fact .last .store)) n (c .in-Some .after) (drop (c .loop-i .i + 1) (c .args .facts .now))) (sym (c .in-Ok .ensures tt .rows))
-      (write-room _ _ _ _ _ _ (c .loop-i-test .taken) (c .loop-i .inv .1 s r) _ _ (c .in-Ok .ensures tt .live (c .loop-i .inv .0 s)) (c .in-Some .ensures tt .1)),
+      (write-room _ _ _ _ _ _ (c .loop-i-test .taken) (c .loop-i .inv .1 s r) _ _ (c .in-Ok .ensures tt .live (c .loop-i .inv .0 s)) (c .in-Some .ensures tt .value)),
   λ s r.
-      write-more _ _ _ _ _ _ (c .loop-i-test .taken) (c .loop-i .inv .1 s r) _ _ (c .in-Ok .ensures tt .live (c .loop-i .inv .0 s)) (c .in-Some .ensures tt .1)
+      write-more _ _ _ _ _ _ (c .loop-i-test .taken) (c .loop-i .inv .1 s r) _ _ (c .in-Ok .ensures tt .live (c .loop-i .inv .0 s)) (c .in-Some .ensures tt .value)
       ∙ c .loop-i .inv .2 s r,
-  c .in-Ok .ensures tt .rows ∙ c .loop-i .inv .3)
+  c .in-Ok .ensures tt .rows ∙ c .loop-i .inv .3,
+)
 
 pub returns : need.returns
 returns g c = record {

@@ -1,0 +1,5 @@
+pub mod Answered
+pub mod Budgets
+pub mod Decisive
+pub mod Fronts
+pub mod Places
