@@ -25,7 +25,7 @@ use Rattle.meaning.specs.Instances.{IsDue, DueIs}
 use Rattle.meaning.specs.Enumeration.{due-of}
 use Rattle.meaning.specs.Agreement.{Proper}
 use Rattle.meaning.specs.Firing.{taken-ids, taking-off, numbered-from, rule-at, body-worked, fire, handed, hand-in}
-use Rattle.meaning.specs.Published.{Constraint, fact, fail, Execution, identified, Introduces, Introduced, Writes, Applies, Stuck, history-of, as-published, asking, Shape, Shaped, Turn, firing-of, due-tuple, failing, Fires, Follows}
+use Rattle.meaning.specs.Published.{Constraint, fact, fail, Execution, identified, Introduces, Introduced, Writes, Applies, Stuck, history-of, as-published, asking, Shape, Shaped, Turn, firing-of, due-tuple, failing, Derives, Follows}
 use Rattle.meaning.proofs.Lists.{in-either}
 use Rattle.meaning.proofs.Agreement.{due-is}
 use Rattle.meaning.proofs.PublishedRoll.{rule-numbered, history-append, one-firing, histories}
@@ -97,7 +97,7 @@ module _ {R : Type 0} (s : Setup R) where
     history-after : history-of s (t .roll) ++ x ∷ [] ≡ history-of s (t .roll ++ Fired (firing-of s d) ∷ [])
     history-after = sym (history-append s (t .roll) (Fired (firing-of s d) ∷ []))
 
-    fires : (u : State) → Turn s t d → fire s t (d .rule) (d .ids) ≡ Ok u → failing s d ≡ false → Fires s t x u
+    fires : (u : State) → Turn s t d → fire s t (d .rule) (d .ids) ≡ Ok u → failing s d ≡ false → Derives s t x u
     fires u turn e f =
         let m = made s t (d .rule) (d .ids) u e in
         let g = ap (λ b. cond b (fail ∷ []) (map fact (m .body))) f in

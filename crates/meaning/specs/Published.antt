@@ -26,7 +26,7 @@
 --     Shape s f           the firing f has one id for each head of its rule, and 0 beyond
 --     Shaped s t          so has every firing on the roll
 --     Turn s t d          what step finds where it goes on to fire: d is due
---     Fires s t x u       one Apply with the tuple x, then the Introduces of its body in file order
+--     Derives s t x u     one Apply with the tuple x, then the Introduces of its body in file order
 --     Follows R           over ranks of the kind R: the moves of a run are transitions, and a run
 --                         that is final or has failed has none left
 use mathlib.Core.Bool.{Bool, true, false, cond, not}
@@ -234,7 +234,7 @@ module _ {R : Type 0} (s : Setup R) where
   abbrev pub failing : Due R → Bool
   failing d = rule-at (s .rules) (d .rule) .fails
 
-  pub record Fires (t : State) (x : List ℕ) (u : State) : Type 0 where
+  pub record Derives (t : State) (x : List ℕ) (u : State) : Type 0 where
     pub midway : Execution
     pub body : List Written
     pub applies : Applies s (as-published s t) x midway
@@ -249,7 +249,7 @@ pub record Follows (R : Type 0) : Type 0 where
       → Introduces (asking (as-published s t) c) c (as-published s u)
   -- a firing is one Apply, of best priority, and then one Introduce for each body fact
   pub fires : (s : Setup R) (t u : State) (d : Due R) → Turn s t d → fire s t (d .rule) (d .ids) ≡ Ok u
-      → failing s d ≡ false → Fires s t (due-tuple s d) u
+      → failing s d ≡ false → Derives s t (due-tuple s d) u
   -- the firing of a rule with fail is one Apply, after which fail is in the goal
   pub fails : (s : Setup R) (t u : State) (d : Due R) → Turn s t d → fire s t (d .rule) (d .ids) ≡ Ok u
       → failing s d ≡ true → Applies s (as-published s t) (due-tuple s d) (as-published s u)

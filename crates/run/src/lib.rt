@@ -9,3 +9,4 @@ pub mod change;
 pub mod clear;
 pub mod open;
 pub mod run;
+pub mod steps;

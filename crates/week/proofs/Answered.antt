@@ -1,7 +1,7 @@
 -- The answer of the reader, put together from what its parts answer.
-use mathlib.Core.Bool.{Bool, true, false, not}
+use mathlib.Core.Bool.{true, not}
 use mathlib.Core.List.{List, [], _∷_}
-use mathlib.Core.Path.{_≡_, refl, sym, ap, _∙_}
+use mathlib.Core.Path.{_≡_, refl, ap, _∙_}
 use Prim.Native.Nat.{ℕ, zero, suc}
 use native.Mathlib.Omega.{arith}
 use lib.Dec.{eqb}
@@ -14,14 +14,13 @@ use Rattle.std.specs.declared.option.Option.the-variants.{Some, None}
 use Rattle.std.specs.declared.result.Result.{Result}
 use Rattle.std.specs.declared.result.Result.the-variants.{Ok, Err}
 use Rattle.facts.specs.Positions.{all}
-use Rattle.records.specs.declared.parts.Goal.{Goal}
 use Rattle.rules.specs.Results.{and-then}
 use Rattle.book.specs.Books.{Book, closing}
 use Rattle.book.specs.Drafts.{Draft, fresh, is-open}
 use Rattle.book.specs.declared.draft.State.{State}
 use Rattle.book.specs.declared.draft.State.the-variants as state
 use Rattle.week.specs.declared.week.At.{At}
-use Rattle.week.specs.Weeks.{Goals, Week, untouched, ended-with, rules-from, goals-from, open-fault, closed-at, with-goals, reading}
+use Rattle.week.specs.Weeks.{Goals, untouched, ended-with, rules-from, goals-from, open-fault, closed-at, with-goals, reading}
 
 -- A draft that has taken no record is the fresh one
 

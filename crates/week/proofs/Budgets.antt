@@ -1,6 +1,6 @@
 -- How many bytes of records a draft can take at most: a record taken uses up its size.
 use mathlib.Core.Bool.{Bool, true, false, cond}
-use mathlib.Core.List.{List, [], _∷_, _++_}
+use mathlib.Core.List.{List, [], _∷_}
 use mathlib.Core.Path.{_≡_, refl, sym, ap, subst, _∙_}
 use Prim.Native.Nat.{ℕ, zero, suc, _+_, _-_, _*_, _<_, _≤_}
 use native.Mathlib.Omega.{arith}
@@ -21,12 +21,11 @@ use Rattle.records.specs.declared.fault.Fault.the-variants as fault-of
 use Rattle.records.specs.declared.kinds.RecordKind.{RecordKind}
 use Rattle.records.specs.declared.kinds.Record.{Record}
 use Rattle.records.specs.declared.kinds.Record.the-variants as record-of
-use Rattle.records.specs.declared.parts.Operand.{Operand}
 use Rattle.records.specs.declared.parts.Head.{Head}
 use Rattle.records.specs.declared.parts.Guard.{Guard}
 use Rattle.rules.specs.declared.BodyFact.{BodyFact}
-use Rattle.rules.specs.Results.{and-then, unless}
-use Rattle.rules.specs.Rules.{Rule, blank-rule, bound, guard-bound, fact-bound}
+use Rattle.rules.specs.Results.{and-then}
+use Rattle.rules.specs.Rules.{Rule, blank-rule, guard-bound, fact-bound}
 use Rattle.book.specs.declared.draft.State.{State}
 use Rattle.book.specs.declared.draft.State.the-variants as state
 use Rattle.book.specs.declared.part.Part.the-variants as part

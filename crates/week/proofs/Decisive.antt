@@ -1,7 +1,7 @@
 -- The first 34,691 bytes of any file decide: the rules end within 20,320 bytes, 1,024 goal facts more
 -- are 34,656, and the next record has at most 35.
 use mathlib.Core.Bool.{Bool, true, false, cond, not, _&&_}
-use mathlib.Core.List.{List, [], _∷_}
+use mathlib.Core.List.{List, []}
 use mathlib.Core.Logic.{⊎-elim}
 use mathlib.Core.Path.{_≡_, refl, sym, ap, subst, _∙_}
 use Prim.Native.Nat.{ℕ, zero, suc, _+_, _-_, _*_, _<_, _≤_}
@@ -22,10 +22,10 @@ use Rattle.book.proofs.Cases.{err-is-ok, same-ok}
 use Rattle.book.specs.Books.{closing}
 use Rattle.book.specs.Drafts.{Draft, fresh, is-open, taking}
 use Rattle.week.specs.declared.week.At.{At}
-use Rattle.week.specs.Weeks.{Goals, Week, begins-goal, rules-end, on-record, rules-from, on-goal, goal-at-front, goals-from, with-goals, closed-at, reading, first-bytes}
+use Rattle.week.specs.Weeks.{begins-goal, rules-end, on-record, rules-from, on-goal, goals-from, with-goals, closed-at, reading, first-bytes}
 use Rattle.week.proofs.Budgets.{budget, fresh-budget, taking-uses}
 use Rattle.week.proofs.Fronts.{by-length, empty-front, taking-front, rules-end-front, goal-front}
-use Rattle.week.proofs.Places.{size-positive, begun-within, taken-begun, rules-stop, rules-go, nothing-ends, true-is-false}
+use Rattle.week.proofs.Places.{size-positive, rules-stop, rules-go, nothing-ends, true-is-false}
 
 -- a front of the bytes, without its own front
 drop-front : (n c : ℕ) (bs : List ℕ) → n ≤ c → drop n (take c bs) ≡ take (c - n) (drop n bs)
@@ -79,7 +79,7 @@ rules-same (suc n) m p c d bs l k h =
   where
     go : (b : Bool) → rules-end d bs ≡ b → (m : ℕ) → length (take c bs) ≤ m → (x : Result (RecordKind × Draft) Fault) → taking d bs ≡ x
         → ((j : ℕ) (y : RecordKind × Draft) → length (drop (size (y .0)) bs) ≤ n → length (take (c - size (y .0)) (drop (size (y .0)) bs)) ≤ j → budget (y .1) + 14371 ≤ c - size (y .0)
-            → rules-from n (p + size (y .0)) (y .1) (drop (size (y .0)) bs) ≡ rules-from j (p + size (y .0)) (y .1) (take (c - size (y .0)) (drop (size (y .0)) bs)))
+        → rules-from n (p + size (y .0)) (y .1) (drop (size (y .0)) bs) ≡ rules-from j (p + size (y .0)) (y .1) (take (c - size (y .0)) (drop (size (y .0)) bs)))
         → rules-from (suc n) p d bs ≡ rules-from m p d (take c bs)
     go true r m k x t on =
         rules-stop (suc n) p d bs (sym r) ∙ sym (rules-stop m p d (take c bs) (sym r ∙ rules-end-front bs c (omega arith) d))
@@ -113,7 +113,7 @@ goals-same (suc n) p c bs h =
     let l : 35 ≤ c = omega arith in
     let v : 14 ≤ c = omega arith in
     let r : goals-from n (p + 14) (drop 14 bs) ≡ goals-from n (p + 14) (drop 14 (take c bs)) =
-        goals-same n (p + 14) (c - 14) (drop 14 bs) (omega arith) ∙ ap (goals-from n (p + 14)) (sym (drop-front 14 c bs v)) in
+    goals-same n (p + 14) (c - 14) (drop 14 bs) (omega arith) ∙ ap (goals-from n (p + 14)) (sym (drop-front 14 c bs v)) in
     λ i. cond (empty-front bs c l i) (record { goals = []; fault = None }) (on-goal p (goal-front bs c l i) (r i))
 
 -- The file

@@ -1,9 +1,9 @@
 -- What the bytes say of their first record depends on the first 35 of them.
-use mathlib.Core.Bool.{Bool, true, false, cond, not, _&&_, _||_}
+use mathlib.Core.Bool.{cond, not, _&&_, _||_}
 use mathlib.Core.List.{List, [], _∷_}
 use mathlib.Core.Logic.{⊎-elim}
 use mathlib.Core.Path.{_≡_, refl, sym, ap, _∙_}
-use Prim.Native.Nat.{ℕ, zero, suc, _+_, _≤_, _<_}
+use Prim.Native.Nat.{ℕ, zero, suc, _≤_, _<_}
 use native.Mathlib.Omega.{arith}
 use lib.Dec.{eqb, ltb, lit≤}
 use lib.ListN.{length, take}
@@ -12,15 +12,11 @@ use Rattle.std.proofs.shelf.Tests.{le-ltb, ne-eqb, cases-lt}
 use Rattle.std.specs.Options.{okOr}
 use Rattle.std.specs.declared.option.Option.{Option}
 use Rattle.std.specs.declared.option.Option.the-variants.{Some, None}
-use Rattle.std.specs.declared.result.Result.{Result}
 use Rattle.std.specs.declared.result.Result.the-variants.{Ok, Err}
 use Rattle.records.specs.Bytes.{begun, fields, record-at, record-kind, byte, whole, size}
-use Rattle.records.specs.declared.fault.Fault.{Fault}
 use Rattle.records.specs.declared.fault.Fault.the-variants as fault-of
 use Rattle.records.specs.declared.kinds.RecordKind.{RecordKind}
 use Rattle.records.specs.declared.kinds.RecordKind.the-variants as kind
-use Rattle.records.specs.declared.kinds.Record.{Record}
-use Rattle.records.specs.declared.parts.Goal.{Goal}
 use Rattle.rules.specs.Results.{and-then, unless}
 use Rattle.book.specs.Drafts.{Draft, taking, follows, entered, is-open}
 use Rattle.week.specs.Weeks.{goal-at-front, is-goal, goal-of, begins-goal, rules-end}

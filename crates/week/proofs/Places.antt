@@ -4,8 +4,8 @@ use mathlib.Core.List.{List, [], _∷_, _++_}
 use mathlib.Core.Path.{_≡_, refl, sym, ap, subst, _∙_}
 use Prim.Native.Nat.{ℕ, zero, suc, _+_, _-_, _<_, _≤_}
 use native.Mathlib.Omega.{arith}
-use lib.Dec.{eqb, ltb, lit<, lit≤}
-use lib.ListN.{length, drop, take}
+use lib.Dec.{eqb, ltb, lit<}
+use lib.ListN.{length, drop}
 use Rattle.std.proofs.shelf.Lists.{drop-drop, length-drop, append-assoc, append-nil, nil-from-length, length-push}
 use Rattle.std.proofs.shelf.Tests.{ltb-false, ne-eqb}
 use Rattle.std.specs.Options.{okOr}
@@ -18,11 +18,9 @@ use Rattle.records.specs.declared.fault.Fault.{Fault}
 use Rattle.records.specs.declared.fault.Fault.the-variants as fault-of
 use Rattle.records.specs.declared.kinds.RecordKind.{RecordKind}
 use Rattle.records.specs.declared.kinds.RecordKind.the-variants as kind
-use Rattle.records.specs.declared.kinds.Record.{Record}
 use Rattle.records.specs.declared.parts.Goal.{Goal}
 use Rattle.book.proofs.Cases.{ok-then, err-is-ok, same-ok}
 use Rattle.book.specs.Drafts.{Draft, taking, taken-kind, taken-draft, follows, entered}
-use Rattle.week.specs.declared.week.At.{At}
 use Rattle.week.specs.Weeks.{Goals, rules-end, rules-from, on-record, on-goal, goal-at-front, goals-from, is-goal, goal-of}
 use Rattle.rules.specs.Results.{and-then, unless}
 
@@ -121,16 +119,15 @@ module _ (first : Draft) (file : List ℕ) where
     ahead-more k a e t u =
         let s = ahead-step e in
         let x = taken-both (taking d (drop p file)) k d a t u in
-        let o = size-positive k in
-        (
+        let o = size-positive k in (
           ahead-within k t,
           (
             s .0,
             (
               omega (arith, s .1 .0),
               s .1 .1
-              ∙ ap (λ y. on-record p y (λ k a. rules-from (s .0) (p + size k) a (drop (size k) (drop p file)))) x
-              ∙ ap (rules-from (s .0) (p + size k) a) (drop-drop (size k) p file),
+                  ∙ ap (λ y. on-record p y (λ k a. rules-from (s .0) (p + size k) a (drop (size k) (drop p file)))) x
+                  ∙ ap (rules-from (s .0) (p + size k) a) (drop-drop (size k) p file),
             ),
           ),
         )
@@ -209,13 +206,12 @@ module _ (start : ℕ) (file : List ℕ) where
     goals-more g hs l m e x =
         let w = goal-within (drop p file) g (sym e) in
         let v : 14 ≤ length file - p = rw length-drop at w in
-        let rest : Goals = goals-from (1025 - (length gs + 1)) (p + 14) (drop 14 (drop p file)) in
-        (
+        let rest : Goals = goals-from (1025 - (length gs + 1)) (p + 14) (drop 14 (drop p file)) in (
           omega arith,
           ap (λ (xs : List Goal). after-goals xs (goals-from (1025 - length xs) (p + 14) (drop (p + 14) file))) x
-          ∙ ap (λ n. after-goals (gs ++ g ∷ []) (goals-from (1025 - n) (p + 14) (drop (p + 14) file))) (length-push gs g)
-          ∙ ap (λ bs. after-goals (gs ++ g ∷ []) (goals-from (1025 - (length gs + 1)) (p + 14) bs)) (sym (drop-drop 14 p file))
-          ∙ ap (λ (xs : List Goal). record { goals = xs; fault = rest .fault }) (append-assoc gs (g ∷ []) (rest .goals))
-          ∙ ap (λ y. after-goals gs (on-goal p y rest)) e
-          ∙ goals-on l m,
+              ∙ ap (λ n. after-goals (gs ++ g ∷ []) (goals-from (1025 - n) (p + 14) (drop (p + 14) file))) (length-push gs g)
+              ∙ ap (λ bs. after-goals (gs ++ g ∷ []) (goals-from (1025 - (length gs + 1)) (p + 14) bs)) (sym (drop-drop 14 p file))
+              ∙ ap (λ (xs : List Goal). record { goals = xs; fault = rest .fault }) (append-assoc gs (g ∷ []) (rest .goals))
+              ∙ ap (λ y. after-goals gs (on-goal p y rest)) e
+              ∙ goals-on l m,
         )

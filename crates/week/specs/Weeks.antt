@@ -2,19 +2,24 @@
 --     At                    a fault, and the place of the byte where its record begins
 --     Week                  the book, the place where the goal facts begin, the goal facts in file
 --                           order, and the fault that ended them, if any
+--     is-goal k             k is the goal fact; begins-goal, the same of what the bytes begin with
 --     rules-end d bs        the rules end before bs: nothing is left, or a goal fact with no rule open
 --     rules-from n p d bs   where the rules end, and the draft then, or the first fault: d takes the
 --                           records of bs, which begin at place p; n is no less than their bytes
---     ended-with r d        the same, from the place or fault r and the draft d
---     goal-at-front bs      the goal fact that bs begin with, or the fault
+--     on-record p x on      one record of that: on with what was taken, or the fault at place p
+--     ended-with r d        the same answer, from the place or fault r and the draft d
+--     goal-at-front bs      the goal fact that bs begin with, or the fault; goal-of, of a record
+--     Goals                 goal facts, and the fault that ended them, if any
 --     goals-from n p bs     the goal facts of bs, which begin at place p, up to the first fault or the
 --                           n-th of them; each has 14 bytes, so the i-th (from 0) begins at p + 14 i
+--     on-goal p x rest      one goal fact of that and the rest, or the fault at place p
+--     open-fault d bs       the fault of a rule open at the end of the file bs
+--     with-goals b p gs     the week of the book b, the place p and the goal facts gs
+--     closed-at bs x        the week of the file bs whose rules ended at a place with a draft, x
 --     reading bs            the week that the file bs holds, or the first fault of its rules
 --     first-bytes bs        the first 34,691 of the bytes bs
---     open-fault d bs       the fault of a rule open at the end of the file bs
 --     untouched d           d has taken no record: no rule, none open, no kind declared
---     week-of w             the week that the data w holds
---     answer-of r           the same of an answer
+--     week-of w             the week that the data w holds; answer-of, the same of an answer
 use mathlib.Core.Bool.{Bool, true, false, cond, not, _&&_, _||_}
 use mathlib.Core.List.{List, [], _∷_}
 use Prim.Native.Nat.{ℕ, zero, suc, _+_}
@@ -60,7 +65,6 @@ begins-goal (Err f) = false
 abbrev pub rules-end : Draft → List ℕ → Bool
 rules-end d bs = eqb (length bs) 0 || (begins-goal (begun bs) && not (is-open (d .state)))
 
--- what comes of a record: on with the draft then, or the fault at the place p
 abbrev pub on-record : ℕ → Result (RecordKind × Draft) Fault → (RecordKind → Draft → Result (ℕ × Draft) At) → Result (ℕ × Draft) At
 on-record p (Ok x) on = on (x .0) (x .1)
 on-record p (Err f) on = Err (record { place = p; fault = f })
@@ -101,6 +105,7 @@ abbrev pub on-goal : ℕ → Result Goal Fault → Goals → Goals
 on-goal p (Ok g) rest = record { goals = g ∷ rest .goals; fault = rest .fault }
 on-goal p (Err f) rest = record { goals = []; fault = Some (record { place = p; fault = f }) }
 
+-- not an abbrev, nor are the first bytes below: at these numbers each would unfold too far to read
 unfoldable pub goals-from : ℕ → ℕ → List ℕ → Goals
 goals-from zero p bs = record { goals = []; fault = None }
 goals-from (suc n) p bs =
@@ -122,6 +127,7 @@ with-goals b p gs = record { book = b; start = p; goals = gs .goals; fault = gs 
 abbrev pub open-fault : Draft → List ℕ → Result (Unit {0}) At
 open-fault d bs = unless (not (is-open (d .state))) (record { place = length bs; fault = fault-of.RuleOpen })
 
+-- no run takes more than 1,024 hand-ins, so the refusal of the 1,025th is certain
 abbrev pub closed-at : List ℕ → ℕ × Draft → Result Week At
 closed-at bs x =
     and-then (open-fault (x .1) bs) (λ _.
@@ -135,7 +141,6 @@ first-bytes bs = take 34691 bs
 
 -- The data
 
--- the draft has taken no record: it is the fresh one
 abbrev pub untouched : Draft → Bool
 untouched d = not (is-open (d .state)) && (all (λ a. not (isSome a)) (d .tables .kinds) && eqb (length (d .tables .rules)) 0)
 

@@ -8,6 +8,7 @@ use crate::rules::is_goal;
 use crate::week::At;
 use records::fault::Fault;
 use records::kinds::Record;
+use records::kinds::RecordKind;
 use records::parts::Goal;
 use records::reads::begun;
 use records::reads::fields;
@@ -27,14 +28,12 @@ pub(crate) fn read_goals(goals: &mut Vec<Goal>, file: &[u8], start: usize) -> Op
         match goal_at_front(&file[place..]) {
             Ok(goal) => {
                 goals.push_reserved(goal);
-                place += GOAL_SIZE;
+                place += RecordKind::GoalFact.size();
             }
             Err(fault) => break Some(At { place, fault }),
         }
     }
 }
-
-const GOAL_SIZE: usize = 14;
 
 // The goal fact that the bytes begin with.
 fn goal_at_front(bytes: &[u8]) -> Result<Goal, Fault>

@@ -10,7 +10,8 @@ pub struct At {
 }
 
 /// What a week file holds: the book, the place of the first goal fact (or the file's length), the
-/// goal facts in file order, and the fault that ended them, if any.
+/// goal facts in file order, and the fault that ended them, if any. Every goal record has 14 bytes,
+/// so goal fact i (from 0) begins at start + 14 i.
 #[derive(Drop)]
 pub struct Week {
     pub book: Book,

@@ -1,4 +1,9 @@
 ghost use mathlib.Core.Path.{_≡_};
+ghost use mathlib.Core.List.{[]};
+ghost use Rattle.std.specs.Of.Vec.{vec-items};
+ghost use Rattle.std.specs.Vec.{made};
+ghost use Rattle.book.specs.Drafts.{fresh};
+ghost use Rattle.book.specs.Held.{draft-of};
 ghost use Rattle.week.specs.Weeks.{reading, answer-of, first-bytes};
 use crate::goals::read_goals;
 use crate::reader::MOST_GOALS;
@@ -14,7 +19,10 @@ use std::alloc::Global;
 impl Reader {
     /// A reader of one file; it claims all the memory that it will need, and is refused only for
     /// want of it.
-    pub fn new(heap: Global) -> Result<Reader, AllocError> {
+    pub fn new(heap: Global) -> Result<Reader, AllocError>
+        ensures value { λ r. ⌜ made r (λ x. draft-of (x .draft) ≡ fresh) ⌝ }
+        ensures items { λ r. ⌜ made r (λ x. vec-items (x .goals) ≡ []) ⌝ }
+    {
         let draft = Draft::new(heap)?;
         let goals = Vec::with_capacity(heap, MOST_GOALS)?;
         Ok(Reader { draft, goals })

@@ -1,10 +1,10 @@
 use mathlib.Core.Logic.{⊎-elim}
-use Prim.Native.Nat.{_<_, _≤_}
+use mathlib.Core.Path.{sym, subst}
+use Prim.Native.Nat.{_+_}
 use native.Mathlib.Omega.{arith}
-use lib.ListN.{length}
 use Rattle.std.proofs.shelf.Lists.{take-rest, nil-from-length}
-use Rattle.std.specs.Of.Vec.{vec-items, vec-cap}
-use Rattle.week.proofs.Places.{goals-start, goals-full, goals-over, goals-fault, goals-more}
+use Rattle.std.specs.Of.Vec.{vec-items}
+use Rattle.week.proofs.Places.{GoalsAhead, goals-start, goals-full, goals-over, goals-fault, goals-more}
 use Rattle.week.proofs.goals.read_goals.Needs as need
 
 pub loop-goal-holds : need.loop-goal-holds
@@ -26,5 +26,6 @@ returns-in-Err c = record {
 pub loop-goal-again : need.loop-goal-again
 loop-goal-again c = (
   omega arith,
-  goals-more _ _ _ (c .loop-goal .place) (c .loop-goal .inv .1) (c .in-Ok .goal) _ (omega arith) (c .if-place-file .left) (rw take-rest at (c .in-Ok .ensures tt .value)) (c .push-reserved .ensures .items),
+  subst (λ n. GoalsAhead (c .args .start) (c .args .file .now) (vec-items (c .push-reserved .last .self)) (c .loop-goal .place + n)) (sym (c .size-place .ensures .value))
+      (goals-more _ _ _ (c .loop-goal .place) (c .loop-goal .inv .1) (c .in-Ok .goal) _ (omega arith) (c .if-place-file .left) (rw take-rest at (c .in-Ok .ensures tt .value)) (c .push-reserved .ensures .items)),
 )

@@ -1,8 +1,8 @@
-use mathlib.Core.Path.{_≡_, ap, sym, subst}
+use mathlib.Core.Path.{sym, subst}
 use Prim.Native.Nat.{ℕ, _+_}
 use Rattle.std.proofs.shelf.Lists.{take-rest}
 use Rattle.book.specs.Held.{draft-of}
-use Rattle.week.proofs.Places.{Ahead, ahead-start, ahead-end, ahead-fault, ahead-within, ahead-more}
+use Rattle.week.proofs.Places.{Ahead, ahead-start, ahead-end, ahead-fault, ahead-more}
 use Rattle.week.proofs.rules.read_rules.Needs as need
 
 pub loop-draft-holds : need.loop-draft-holds
@@ -24,6 +24,6 @@ pub loop-draft-again : need.loop-draft-again
 loop-draft-again c =
     let a = draft-of (c .take .last .self) in
     let m = ahead-more (draft-of (c .args .draft .now)) (c .args .file .now) (c .loop-draft .place) (draft-of (c .loop-draft .draft)) (c .loop-draft .inv) (c .in-Ok .kind) a
-        (rw take-rest at (c .if-rules-end .ensures tt .value)) (rw take-rest at (c .in-Ok .ensures tt .value)) (rw take-rest at (c .in-Ok .ensures tt .after)) in
+    (rw take-rest at (c .if-rules-end .ensures tt .value)) (rw take-rest at (c .in-Ok .ensures tt .value)) (rw take-rest at (c .in-Ok .ensures tt .after)) in
     let P : ℕ → Type 0 = λ n. Ahead (draft-of (c .args .draft .now)) (c .args .file .now) (c .loop-draft .place + n) a in
     subst P (sym (c .size-place .ensures .value)) m
