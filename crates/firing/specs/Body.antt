@@ -1,4 +1,5 @@
 -- A body worked out position by position. Assumes nothing.
+--     blank-working, blank-fact  what stands past the end of a list of workings or body facts
 --     value-at works e a n k w   the value of the k-th working w of the n-th body fact, of the arity a:
 --                                0 where the position is unused, and the host is not asked
 --     three-values works e f n   the three values of the n-th body fact f, first to last, or the

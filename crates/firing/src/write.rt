@@ -1,9 +1,11 @@
 ghost use mathlib.Core.Path.{_≡_};
 ghost use mathlib.Core.List.{_++_};
+ghost use Prim.Native.Nat.{_<_};
+ghost use lib.ListN.{length, getD};
 ghost use Rattle.std.specs.Results.{isOk};
 ghost use Rattle.store.specs.Store.{Added};
 ghost use Rattle.meaning.specs.Firing.{numbered-from};
-ghost use Rattle.firing.specs.Room.{Room, After, numbered};
+ghost use Rattle.firing.specs.Room.{Room, After, blank-written, numbered};
 use facts::Fact;
 use facts::Id;
 use meaning::written::Written;
@@ -18,7 +20,7 @@ pub fn write_body<S: Store>(store: &mut S, facts: &[Written], next: Id)
 {
     let mut id = next;
     for i in 0..facts.len() {
-        let Ok(()) = add_fact(store, facts[i], id) else {
+        let Ok(()) = add_at(store, facts, i, id) else {
             return;
         };
         let Some(after) = id_after(id) else {
@@ -28,12 +30,14 @@ pub fn write_body<S: Store>(store: &mut S, facts: &[Written], next: Id)
     }
 }
 
-// Adds a fact at the end of the store under an id.
-fn add_fact<S: Store>(store: &mut S, fact: Written, id: Id) -> Result<(), NoRow>
+// Adds the fact at a place at the end of the store, under an id.
+fn add_at<S: Store>(store: &mut S, facts: &[Written], i: usize, id: Id) -> Result<(), NoRow>
+    requires { ⌜ i < length (now facts) ⌝ }
     ensures sound { λ _. ⌜ (S·Store.sound (now (store .entry)) → S·Store.sound (now (store .exit))) ⌝ }
-    ensures live { λ r. ⌜ (S·Store.sound (now (store .entry)) → Added (numbered id fact) (S·Store.live (now (store .entry))) (S·Store.rows (now (store .entry))) (isOk r) (S·Store.live (now (store .exit)))) ⌝ }
+    ensures live { λ r. ⌜ (S·Store.sound (now (store .entry)) → Added (numbered id (getD (now (facts .entry)) i blank-written)) (S·Store.live (now (store .entry))) (S·Store.rows (now (store .entry))) (isOk r) (S·Store.live (now (store .exit)))) ⌝ }
     ensures rows { λ _. ⌜ S·Store.rows (now (store .exit)) ≡ S·Store.rows (now (store .entry)) ⌝ }
 {
+    let fact = facts[i];
     let values = fact.values;
     store.add(Fact {
         id,

@@ -67,10 +67,11 @@ impl<S: Store, H: Host, O: Order> Run<S, H, O> {
 fn numbered(rules: &[Rule], number: u8) -> Option<&Rule>
     ensures value { λ r. ⌜ BySome r ((0 < number → number ≤ length (now (rules .entry)) → ⊥)) (λ rule. rule-of (now rule) ≡ rule-at (map rule-of (now (rules .entry))) number) ⌝ }
 {
-    if number == 0 {
+    let count = number as usize;
+    if count == 0 || count > rules.len() {
         return None;
     }
-    rules.get(number as usize - 1)
+    Some(&rules[count - 1])
 }
 
 fn answer(fails: bool) -> Stepped

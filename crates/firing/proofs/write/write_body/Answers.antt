@@ -1,8 +1,7 @@
 use mathlib.Core.Path.{sym, subst, _∙_}
-use mathlib.Core.List.{[]}
 use Prim.Native.Nat.{_+_}
 use lib.ListN.{drop}
-use Rattle.firing.specs.Room.{Room}
+use Rattle.firing.specs.Room.{Room, blank-written}
 use Rattle.firing.proofs.Rooms.{never-full, never-last, write-room, write-more, write-all}
 use Rattle.firing.proofs.write.write_body.Needs as need
 
@@ -16,7 +15,7 @@ returns-in-rest g c = record {
 pub returns-in-rest-id-after : need.returns-in-rest-id-after
 returns-in-rest-id-after g c = record {
   sound = λ s. c .in-Ok .ensures tt .sound (c .loop-i .inv .0 s);
-  live = λ s r. absurd (never-last _ _ _ _ _ (record { kind = 0; values = [] }) (c .loop-i-test .taken) (c .loop-i .inv .1 s r) (c .in-rest-id-after .ensures tt .value));
+  live = λ s r. absurd (never-last _ _ _ _ _ blank-written (c .loop-i-test .taken) (c .loop-i .inv .1 s r) (c .in-rest-id-after .ensures tt .value));
   rows = c .in-Ok .ensures tt .rows ∙ c .loop-i .inv .3;
 }
 
@@ -24,7 +23,7 @@ pub loop-i-again : need.loop-i-again
 loop-i-again g c = (
   λ s. c .in-Ok .ensures tt .sound (c .loop-i .inv .0 s),
   λ s r.
-      subst (λ n. Room (g .S·Store .live (c .add-fact .last .store)) n (c .in-Some .after) (drop (c .loop-i .i + 1) (c .args .facts .now))) (sym (c .in-Ok .ensures tt .rows))
+      subst (λ n. Room (g .S·Store .live (c .add-at .last .store)) n (c .in-Some .after) (drop (c .loop-i .i + 1) (c .args .facts .now))) (sym (c .in-Ok .ensures tt .rows))
       (write-room _ _ _ _ _ _ (c .loop-i-test .taken) (c .loop-i .inv .1 s r) _ _ (c .in-Ok .ensures tt .live (c .loop-i .inv .0 s)) (c .in-Some .ensures tt .value)),
   λ s r.
       write-more _ _ _ _ _ _ (c .loop-i-test .taken) (c .loop-i .inv .1 s r) _ _ (c .in-Ok .ensures tt .live (c .loop-i .inv .0 s)) (c .in-Some .ensures tt .value)
