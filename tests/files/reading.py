@@ -23,7 +23,7 @@ FINAL = "final\n"
 
 # kind 1 has arity 1; the head matches no fact that a case hands in
 KIND = kind(1, 1)
-HEAD = head(KEPT, 1, X) 
+HEAD = head(KEPT, 1, X)
 NEVER = head(KEPT, 1, 9)
 GUARD = guard(EQUAL, 0, 0)
 BODY = body(1, 5)

@@ -1,5 +1,6 @@
 ghost use mathlib.Core.Path.{_≡_};
-ghost use lib.ListN.{getD, set};
+ghost use mathlib.Core.Bool.{cond};
+ghost use lib.ListN.{getD};
 ghost use Rattle.std.specs.declared.option.Option.the-variants.{Some, None};
 ghost use Rattle.meaning.specs.Enumeration.{seen, agreed-one, agreed, worth};
 use facts::Value;
@@ -25,45 +26,53 @@ pub fn number_of(env: Env, variable: u8) -> Option<Value>
     env[variable as usize]
 }
 
-/// The bindings with one variable more.
-pub fn with_number(env: Env, variable: u8, number: Value) -> Env
-    ensures value { λ r. ⌜ r ≡ set env variable (Some number) ⌝ }
+/// Binds a variable to a number; false where it is another one already.
+pub fn bind(variable: u8, number: Value, env: &mut Env) -> bool
+    ensures value { λ r. ⌜ seen (getD (now (env .entry)) variable None) variable number (now (env .entry)) ≡ cond r (Some (now (env .exit))) None ⌝ }
 {
-    if variable as usize >= VARIABLES {
-        return env;
+    let at = variable as usize;
+    if at >= VARIABLES {
+        return true;
     }
-    let mut more = env;
-    more[variable as usize] = Some(number);
-    more
-}
-
-/// The bindings in which a variable is this number, if it is not another one already.
-pub fn seen(variable: u8, number: Value, env: Env) -> Option<Env>
-    ensures value { λ r. ⌜ r ≡ seen (getD env variable None) variable number env ⌝ }
-{
-    match number_of(env, variable) {
-        None => Some(with_number(env, variable, number)),
-        Some(known) => if known == number { Some(env) } else { None },
+    match env[at] {
+        None => {
+            env[at] = Some(number);
+            true
+        }
+        Some(known) => known == number,
     }
 }
 
-/// The bindings in which an operand is this number, if it can be.
-pub fn agreed_one(operand: Operand, number: Value, env: Env) -> Option<Env>
-    ensures value { λ r. ⌜ r ≡ agreed-one operand number env ⌝ }
+/// Makes an operand a number, if it can be; false where it cannot, and then the bindings are void.
+pub fn agree_one(operand: Operand, number: Value, env: &mut Env) -> bool
+    ensures value { λ r. ⌜ agreed-one operand number (now (env .entry)) ≡ cond r (Some (now (env .exit))) None ⌝ }
 {
     match operand {
-        Operand::Constant(known) => if known == number { Some(env) } else { None },
-        Operand::Variable(variable) => seen(variable, number, env),
+        Operand::Constant(known) => known == number,
+        Operand::Variable(variable) => bind(variable, number, env),
     }
+}
+
+/// Makes the operands these values, one after the other; false where they cannot be, and then the
+/// bindings are void.
+pub fn agree(operands: [Operand; 3], values: Values, env: &mut Env) -> bool
+    ensures value { λ r. ⌜ agreed operands values (now (env .entry)) ≡ cond r (Some (now (env .exit))) None ⌝ }
+{
+    if !agree_one(operands[0], values[0], env) {
+        return false;
+    }
+    if !agree_one(operands[1], values[1], env) {
+        return false;
+    }
+    agree_one(operands[2], values[2], env)
 }
 
 /// The bindings in which the operands are these values, if they can be.
 pub fn agreed(operands: [Operand; 3], values: Values, env: Env) -> Option<Env>
     ensures value { λ r. ⌜ r ≡ agreed operands values env ⌝ }
 {
-    let first = agreed_one(operands[0], values[0], env)?;
-    let second = agreed_one(operands[1], values[1], first)?;
-    agreed_one(operands[2], values[2], second)
+    let mut bound = env;
+    if agree(operands, values, &mut bound) { Some(bound) } else { None }
 }
 
 /// The number of an operand; 0 for a variable that is not bound.
