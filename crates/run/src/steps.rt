@@ -50,10 +50,7 @@ impl<S: Store, H: Host, O: Order> Run<S, H, O> {
         let Some(rule) = numbered(self.book.rules(), number) else {
             return Ok(Stepped::Final);
         };
-        let body = match clear_firing(&self.store, &self.host, rolled, rule, number, ids) {
-            Ok(body) => body,
-            Err(refusal) => return Err(refusal),
-        };
+        let body = clear_firing(&self.store, &self.host, rolled, rule, number, ids)?;
         let fails = rule.fails;
         change_store(&mut self.store, rule, ids, body.as_slice(), self.next);
         self.roll.push_reserved(Entry::Fired(Firing { rule: number, ids }));

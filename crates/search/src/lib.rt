@@ -6,4 +6,4 @@
 
 
 pub mod due;
-pub mod walk;
+mod walk;

@@ -1,5 +1,5 @@
 use mathlib.Core.List.{List, map, _++_}
-use mathlib.Core.Path.{_≡_, refl, sym, ap, _∙_}
+use mathlib.Core.Path.{_≡_, refl, sym, ap, subst, _∙_}
 use Prim.Native.Nat.{ℕ, _+_, _≤_}
 use native.Mathlib.Omega.{arith}
 use lib.ListN.{length, length-take}
@@ -13,7 +13,8 @@ use Rattle.meaning.specs.Setup.{Setup, State}
 use Rattle.meaning.specs.Firing.{rule-at, taken-ids, taking-off, numbered-from}
 use Rattle.meaning.specs.declared.written.Written.{Written}
 use Rattle.run.specs.declared.run.Run.{Run}
-use Rattle.run.specs.Clearing.{clearing, Fireable}
+use Rattle.std.proofs.shelf.Results.{err-from-errBy}
+use Rattle.run.specs.Clearing.{clearing, Fireable, FiresTo}
 use Rattle.run.specs.Runs.{setup-of, state-of, Standing}
 use Rattle.run.proofs.States.{same-rows}
 use Rattle.run.proofs.Firings.{as-cleared, as-changed, firing-refused, firing-room, firing-done, firing-below}
@@ -36,17 +37,20 @@ returns-in-rest g c =
       fires = λ st ok. absurd (c .in-rest .ensures tt .value (ok .from-one) (omega (arith, ok .in-book, long)));
     }
 
-pub returns-in-Err : need.returns-in-Err
-returns-in-Err g c =
+pub returns-in-Break-body : need.returns-in-Break-body
+returns-in-Break-body g c =
     let rule-is : rule-of (c .in-Some .rule .now) ≡ rule-at (book-of (c .args .self .now .book) .rules) (c .args .number) =
         c .in-Some .ensures tt .value ∙ ap (λ rs. rule-at rs (c .args .number)) (c .rules .ensures .value) in
+    let p = err-from-errBy (c .from-residual .result) (c .from-residual .ensures .1) in
+    let result-is : c .from-residual .result ≡ Err (c .in-Break-body .field-0 .0) = p .1 ∙ ap Err (p .2) in
     record {
       kept = refl;
       standing = λ st ok. record { kept = st .kept; below = st .below };
       fires = λ st ok.
-          firing-refused (setup g (c .args .self .now)) (state g (c .args .self .now)) (c .args .number) (c .args .ids) (c .in-Err .refusal)
-          (as-cleared (setup g (c .args .self .now)) (state g (c .args .self .now)) (c .args .number) (c .args .ids) (rule-of (c .in-Some .rule .now)) (c .len-rolled .result) (Err (c .in-Err .refusal)) rule-is
-            (c .len-rolled .ensures ∙ c .args .self .now .roll .ok .0) (c .in-Err .ensures tt .value (st .kept)));
+          subst (λ r. FiresTo (setup g (c .args .self .now)) (state g (c .args .self .now)) (c .args .number) (c .args .ids) (state g (c .args .self .now)) r) (sym result-is)
+          (firing-refused (setup g (c .args .self .now)) (state g (c .args .self .now)) (c .args .number) (c .args .ids) (c .in-Break-body .field-0 .0)
+            (as-cleared (setup g (c .args .self .now)) (state g (c .args .self .now)) (c .args .number) (c .args .ids) (rule-of (c .in-Some .rule .now)) (c .len-rolled .result) (Err (c .in-Break-body .field-0 .0)) rule-is
+              (c .len-rolled .ensures ∙ c .args .self .now .roll .ok .0) (c .in-Break-body .ensures tt .value (st .kept))));
     }
 
 module _ (g : given.Over) (c : need.After-answer g) (st : Standing (g .S·Store .sound) (g .S·Store .live) (c .args .self .now))
@@ -58,7 +62,7 @@ module _ (g : given.Over) (c : need.After-answer g) (st : Standing (g .S·Store 
   t = state g (c .args .self .now)
 
   abbrev body : List Written
-  body = listed (c .in-Ok .body)
+  body = listed (c .in-Continue-body .body)
 
   rule-is : rule-of (c .in-Some .rule .now) ≡ rule-at (s .rules) (c .args .number)
   rule-is = c .in-Some .ensures tt .value ∙ ap (λ rs. rule-at rs (c .args .number)) (c .rules .ensures .value)
@@ -66,13 +70,13 @@ module _ (g : given.Over) (c : need.After-answer g) (st : Standing (g .S·Store 
   cleared : Ok body ≡ clearing (s .works) (t .facts) (rule-at (s .rules) (c .args .number)) (c .args .number) (c .args .ids) (s .rows) (length (t .roll))
   cleared =
       as-cleared s t (c .args .number) (c .args .ids) (rule-of (c .in-Some .rule .now)) (c .len-rolled .result) (Ok body) rule-is
-      (c .len-rolled .ensures ∙ c .args .self .now .roll .ok .0) (c .in-Ok .ensures tt .value (st .kept))
+      (c .len-rolled .ensures ∙ c .args .self .now .roll .ok .0) (c .in-Continue-body .ensures tt .value (st .kept))
 
   within : length (t .facts) ≤ s .rows
   within = g .S·Store·met .within _ (st .kept)
 
   few : length body ≤ 4
-  few = omega (arith, length-take (c .in-Ok .body .len) (c .in-Ok .body .items), c .in-Ok .body .within)
+  few = omega (arith, length-take (c .in-Continue-body .body .len) (c .in-Continue-body .body .items), c .in-Continue-body .body .within)
 
   small : t .next ≤ 4097
   small = omega (arith, c .args .self .now .counted, c .args .self .now .few)
