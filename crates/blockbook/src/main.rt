@@ -26,7 +26,11 @@ const DECIDING_BYTES: usize = 34_691;
 /// How many rows the store has.
 const ROWS: usize = 1024;
 
-const BLANK: Fact = Fact { id: 0, kind: 0, values: [0; 3] };
+const BLANK: Fact = Fact {
+    id: 0,
+    kind: 0,
+    values: [0; 3],
+};
 
 // The first bytes of an input, as many as decide, or all of them.
 fn first_bytes(heap: Global, input: &mut impl Read) -> Result<Vec<u8>, AnyError> {

@@ -3,7 +3,6 @@
 //! Expected values are worked out by hand from the rules of the engine. Nothing stands above.
 
 pub mod books;
-pub mod tools;
-
 #[cfg(test)]
 mod tests;
+pub mod tools;

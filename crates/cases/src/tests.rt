@@ -141,7 +141,13 @@ fn a_sum_beyond_counts_is_refused(rt: LibcRuntime) -> Result<(), Fail> {
         return Err(Fail::new("fired"));
     };
     let numbers = refusal.numbers();
-    check(numbers.number == 13 && numbers.rule == 1 && numbers.fact == 1 && numbers.working == 1 && numbers.cause == 2)?;
+    check(
+        numbers.number == 13
+            && numbers.rule == 1
+            && numbers.fact == 1
+            && numbers.working == 1
+            && numbers.cause == 2,
+    )?;
     check(live_are(&run, &[1]))
 }
 
@@ -158,7 +164,13 @@ fn a_constant_that_is_no_serial_is_refused(rt: LibcRuntime) -> Result<(), Fail> 
         return Err(Fail::new("fired"));
     };
     let numbers = refusal.numbers();
-    check(numbers.number == 13 && numbers.rule == 1 && numbers.fact == 1 && numbers.working == 1 && numbers.cause == 1)?;
+    check(
+        numbers.number == 13
+            && numbers.rule == 1
+            && numbers.fact == 1
+            && numbers.working == 1
+            && numbers.cause == 1,
+    )?;
     check(matches!(run.hand_in(2, [1_000_000, 0, 0]), Err(Refusal::NotAValue)))
 }
 
@@ -174,6 +186,9 @@ fn a_roll_takes_1024_entries(rt: LibcRuntime) -> Result<(), Fail> {
         check(run.hand_in(1, [1, 0, 0]).is_ok())?;
     }
     check(matches!(run.hand_in(1, [1, 0, 0]), Ok(1024)))?;
-    check(matches!(run.hand_in(1, [1, 0, 0]), Err(Refusal::RollFull(Site::HandIn))))?;
+    check(matches!(
+        run.hand_in(1, [1, 0, 0]),
+        Err(Refusal::RollFull(Site::HandIn))
+    ))?;
     check(matches!(run.step(), Err(Refusal::RollFull(Site::Rule(1)))))
 }

@@ -12,14 +12,23 @@ use store::flat::Flat;
 use week::reader::Reader;
 use week::week::Week;
 
-const BLANK: Fact = Fact { id: 0, kind: 0, values: [0; 3] };
+const BLANK: Fact = Fact {
+    id: 0,
+    kind: 0,
+    values: [0; 3],
+};
 
 /// The book that the bytes of a week file hold, if they are read.
 pub fn book_of(heap: Global, bytes: &[u8]) -> Result<Option<Book>, AllocError> {
     let reader = Reader::new(heap)?;
     match reader.read(bytes) {
         Ok(week) => {
-            let Week { book, start: _, goals: _, fault: _ } = week;
+            let Week {
+                book,
+                start: _,
+                goals: _,
+                fault: _,
+            } = week;
             Ok(Some(book))
         }
         Err(_) => Ok(None),

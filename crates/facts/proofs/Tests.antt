@@ -13,12 +13,12 @@ module _ {A : Type 0} (test : A → Bool) (xs : List A) (i : ℕ) where
 
   -- the item passes: the rest decides
   pub all-more : (d : A) → i < length xs → true ≡ test (getD xs i d)
-    → all test (drop i xs) ≡ all test xs → all test (drop (i + 1) xs) ≡ all test xs
+      → all test (drop i xs) ≡ all test xs → all test (drop (i + 1) xs) ≡ all test xs
   all-more d h t k = ap (λ b. b && all test (drop (i + 1) xs)) t ∙ sym (all-at d h) ∙ k
 
   -- the item fails, and so does the whole
   pub all-fails : (d : A) → i < length xs → false ≡ test (getD xs i d)
-    → all test (drop i xs) ≡ all test xs → false ≡ all test xs
+      → all test (drop i xs) ≡ all test xs → false ≡ all test xs
   all-fails d h t k = ap (λ b. b && all test (drop (i + 1) xs)) t ∙ sym (all-at d h) ∙ k
 
   -- nothing is left

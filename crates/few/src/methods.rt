@@ -13,7 +13,10 @@ impl<T: Copy, const N: usize> Few<T, N> {
     pub fn none(blank: T) -> Few<T, N>
         ensures items { λ r. ⌜ listed r ≡ [] ⌝ }
     {
-        Few { items: [blank; N], len: 0 }
+        Few {
+            items: [blank; N],
+            len: 0,
+        }
     }
 
     /// How many items there are.

@@ -34,19 +34,19 @@ and-then-some (Some y) = refl
 
 -- operands and values agree one after the other
 pub agreed-three : (os : List Operand) (vs : List ℤ) (e : Env) (d : Operand) → length os ≡ 3 → length vs ≡ 3
-  → agreed os vs e ≡ and-then (agreed-one (getD os 0 d) (getD vs 0 (pos 0)) e) (λ e. and-then (agreed-one (getD os 1 d) (getD vs 1 (pos 0)) e) (agreed-one (getD os 2 d) (getD vs 2 (pos 0))))
+    → agreed os vs e ≡ and-then (agreed-one (getD os 0 d) (getD vs 0 (pos 0)) e) (λ e. and-then (agreed-one (getD os 1 d) (getD vs 1 (pos 0)) e) (agreed-one (getD os 2 d) (getD vs 2 (pos 0))))
 agreed-three os vs e d l m =
     ap (λ xs. agreed xs vs e) (three-items os d l)
     ∙ ap (λ ys. agreed (getD os 0 d ∷ getD os 1 d ∷ getD os 2 d ∷ []) ys e) (three-items vs (pos 0) m)
     ∙ by-first (agreed-one (getD os 0 d) (getD vs 0 (pos 0)) e)
   where
-  by-second : (x : Option Env) → and-then x (λ e. and-then (agreed-one (getD os 2 d) (getD vs 2 (pos 0)) e) Some) ≡ and-then x (agreed-one (getD os 2 d) (getD vs 2 (pos 0)))
-  by-second None = refl
-  by-second (Some e) = and-then-some (agreed-one (getD os 2 d) (getD vs 2 (pos 0)) e)
+    by-second : (x : Option Env) → and-then x (λ e. and-then (agreed-one (getD os 2 d) (getD vs 2 (pos 0)) e) Some) ≡ and-then x (agreed-one (getD os 2 d) (getD vs 2 (pos 0)))
+    by-second None = refl
+    by-second (Some e) = and-then-some (agreed-one (getD os 2 d) (getD vs 2 (pos 0)) e)
 
-  by-first : (x : Option Env) → and-then x (λ e. and-then (agreed-one (getD os 1 d) (getD vs 1 (pos 0)) e) (λ e. and-then (agreed-one (getD os 2 d) (getD vs 2 (pos 0)) e) Some)) ≡ and-then x (λ e. and-then (agreed-one (getD os 1 d) (getD vs 1 (pos 0)) e) (agreed-one (getD os 2 d) (getD vs 2 (pos 0))))
-  by-first None = refl
-  by-first (Some e) = by-second (agreed-one (getD os 1 d) (getD vs 1 (pos 0)) e)
+    by-first : (x : Option Env) → and-then x (λ e. and-then (agreed-one (getD os 1 d) (getD vs 1 (pos 0)) e) (λ e. and-then (agreed-one (getD os 2 d) (getD vs 2 (pos 0)) e) Some)) ≡ and-then x (λ e. and-then (agreed-one (getD os 1 d) (getD vs 1 (pos 0)) e) (agreed-one (getD os 2 d) (getD vs 2 (pos 0))))
+    by-first None = refl
+    by-first (Some e) = by-second (agreed-one (getD os 1 d) (getD vs 1 (pos 0)) e)
 
 -- where the first or the second operand does not agree, nor do all; where both do, the third decides
 module _ (os : List Operand) (vs : List ℤ) (e : Env) (d : Operand) (l : length os ≡ 3) (m : length vs ≡ 3) where
@@ -66,7 +66,7 @@ module _ (os : List Operand) (vs : List ℤ) (e : Env) (d : Operand) (l : length
   third-decides e₁ e₂ h k = ap (λ x. and-then x third) k ∙ ap (λ x. and-then x onward) h ∙ sym (agreed-three os vs e d l m)
 
 pub same-ids-four : (is js : List ℕ) → length is ≡ 4 → length js ≡ 4
-  → same-ids is js ≡ ((eqb (getD is 0 0) (getD js 0 0) && eqb (getD is 1 0) (getD js 1 0)) && eqb (getD is 2 0) (getD js 2 0)) && eqb (getD is 3 0) (getD js 3 0)
+    → same-ids is js ≡ ((eqb (getD is 0 0) (getD js 0 0) && eqb (getD is 1 0) (getD js 1 0)) && eqb (getD is 2 0) (getD js 2 0)) && eqb (getD is 3 0) (getD js 3 0)
 same-ids-four is js l m =
     ap (λ xs. same-ids xs js) (four-items is 0 l)
     ∙ ap (λ ys. same-ids (getD is 0 0 ∷ getD is 1 0 ∷ getD is 2 0 ∷ getD is 3 0 ∷ []) ys) (four-items js 0 m)

@@ -26,8 +26,8 @@ module _ (h : Head) (used : List ℕ) (e : Env) where
   partners-none fs from n = walk-none part (h .kind) others fs from n
 
   pub partners-more : (fs : List Fact) (from id : ℕ) (r : Option Env) → Rising fs → next-of (h .kind) from fs ≡ Some id
-    → r ≡ matched h used e id fs
-    → partners h used e (since from fs) ≡ partner-of id r ++ partners h used e (since (id + 1) fs)
+      → r ≡ matched h used e id fs
+      → partners h used e (since from fs) ≡ partner-of id r ++ partners h used e (since (id + 1) fs)
   partners-more fs from id r up n m =
       let met = next-met fs (h .kind) from id up n in
       walk-more part (h .kind) others fs from id (met .fact) up n (met .found)
@@ -41,12 +41,12 @@ module _ (h : Head) (used : List ℕ) (e : Env) where
     walk-ends n = sym left ∙ partners-none fs at (sym n)
 
     pub walk-finds : (id after : ℕ) (b : Env) → Rising fs → Some id ≡ next-of (h .kind) at fs → Some b ≡ matched h used e id fs → after ≡ id + 1
-      → partners h used e (since from fs) ≡ record { id = id; env = b } ∷ partners h used e (since after fs)
+        → partners h used e (since from fs) ≡ record { id = id; env = b } ∷ partners h used e (since after fs)
     walk-finds id after b up n m a =
         sym left ∙ partners-more fs at id (Some b) up (sym n) m ∙ ap (λ i. partner-of id (Some b) ++ partners h used e (since i fs)) (sym a)
 
     pub walk-passes : (id after : ℕ) → Rising fs → Some id ≡ next-of (h .kind) at fs → None ≡ matched h used e id fs → after ≡ id + 1
-      → partners h used e (since after fs) ≡ partners h used e (since from fs)
+        → partners h used e (since after fs) ≡ partners h used e (since from fs)
     walk-passes id after up n m a =
         ap (λ i. partners h used e (since i fs)) a ∙ sym (partners-more fs at id None up (sym n) m) ∙ left
 

@@ -13,7 +13,16 @@ use order::order::Order;
 use rules::Rule;
 
 /// The better of the best so far and this instance, if it waits; the best so far where they are level.
-pub fn consider<H: Host, O: Order>(host: &H, order: &O, roll: &[Entry], number: u8, rule: &Rule, ids: [Id; 4], env: Env, best: Option<Due<O::Rank>>) -> Option<Due<O::Rank>>
+pub fn consider<H: Host, O: Order>(
+    host: &H,
+    order: &O,
+    roll: &[Entry],
+    number: u8,
+    rule: &Rule,
+    ids: [Id; 4],
+    env: Env,
+    best: Option<Due<O::Rank>>,
+) -> Option<Due<O::Rank>>
     ensures value { λ r. ⌜ r ≡ considered (H·Host.says (now (host .entry))) (O·Order.rank (now (order .entry))) (O·Order.better (now (order .entry))) (now (roll .entry)) number (rule-of (now (rule .entry))) ids env best ⌝ }
 {
     let rank = order.rank(rule.band, worth(env, rule.rank));
@@ -26,7 +35,11 @@ pub fn consider<H: Host, O: Order>(host: &H, order: &O, roll: &[Entry], number: 
     if fired(roll, number, ids) {
         return best;
     }
-    Some(Due { rule: number, ids, rank })
+    Some(Due {
+        rule: number,
+        ids,
+        rank,
+    })
 }
 
 /// Whether a rank is better than that of the best so far, if there is one.

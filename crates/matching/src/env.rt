@@ -72,7 +72,11 @@ pub fn agreed(operands: [Operand; 3], values: Values, env: Env) -> Option<Env>
     ensures value { λ r. ⌜ r ≡ agreed operands values env ⌝ }
 {
     let mut bound = env;
-    if agree(operands, values, &mut bound) { Some(bound) } else { None }
+    if agree(operands, values, &mut bound) {
+        Some(bound)
+    } else {
+        None
+    }
 }
 
 /// The number of an operand; 0 for a variable that is not bound.

@@ -22,5 +22,9 @@ pub fn applicable<H: Host>(host: &H, guards: &[Guard], env: Env) -> bool
 pub fn says_yes<H: Host>(host: &H, guard: Guard, env: Env) -> bool
     ensures value { λ r. ⌜ r ≡ yes (H·Host.says (now (host .entry))) env guard ⌝ }
 {
-    host.compare(guard.comparator, worth(env, guard.left), worth(env, guard.right))
+    host.compare(
+        guard.comparator,
+        worth(env, guard.left),
+        worth(env, guard.right),
+    )
 }

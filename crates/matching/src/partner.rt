@@ -17,7 +17,13 @@ pub struct Partner {
 }
 
 /// The first fact from an id on that matches the head, if any.
-pub fn next_partner<S: Store>(store: &S, head: Head, used: &[Id], env: Env, from: Id) -> Option<Partner>
+pub fn next_partner<S: Store>(
+    store: &S,
+    head: Head,
+    used: &[Id],
+    env: Env,
+    from: Id,
+) -> Option<Partner>
     ensures later { λ r. ⌜ Later from r ⌝ }
     ensures found { λ r. ⌜ (Ready S·Store.sound S·Store.live (now (store .entry)) → Partnered head (now (used .entry)) env (S·Store.live (now (store .entry))) from r) ⌝ }
 {
@@ -25,7 +31,11 @@ pub fn next_partner<S: Store>(store: &S, head: Head, used: &[Id], env: Env, from
     while let Some(id) = store.next(head.kind, at) {
         let after = id.checked_add(1)?;
         if let Some(bound) = matched(store, head, used, env, id) {
-            return Some(Partner { id, env: bound, after });
+            return Some(Partner {
+                id,
+                env: bound,
+                after,
+            });
         }
         at = after;
     }

@@ -70,7 +70,13 @@ impl Refusal {
 fn plain(number: u8) -> Numbers
     ensures value { λ r. ⌜ r ≡ plain-number number ⌝ }
 {
-    Numbers { number, rule: 0, fact: 0, working: 0, cause: 0 }
+    Numbers {
+        number,
+        rule: 0,
+        fact: 0,
+        working: 0,
+        cause: 0,
+    }
 }
 
 fn at(number: u8, site: Site) -> Numbers
@@ -80,5 +86,11 @@ fn at(number: u8, site: Site) -> Numbers
         Site::HandIn => 0,
         Site::Rule(n) => n,
     };
-    Numbers { number, rule, fact: 0, working: 0, cause: 0 }
+    Numbers {
+        number,
+        rule,
+        fact: 0,
+        working: 0,
+        cause: 0,
+    }
 }

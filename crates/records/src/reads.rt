@@ -76,7 +76,11 @@ fn head(bytes: &[u8]) -> Option<Head>
     let a = operand(bytes, 3)?;
     let b = operand(bytes, 8)?;
     let c = operand(bytes, 13)?;
-    Some(Head { taken, kind, operands: [a, b, c] })
+    Some(Head {
+        taken,
+        kind,
+        operands: [a, b, c],
+    })
 }
 
 fn guard(bytes: &[u8]) -> Option<Guard>
@@ -86,7 +90,11 @@ fn guard(bytes: &[u8]) -> Option<Guard>
     let comparator = comparator(bytes[1])?;
     let left = operand(bytes, 2)?;
     let right = operand(bytes, 7)?;
-    Some(Guard { comparator, left, right })
+    Some(Guard {
+        comparator,
+        left,
+        right,
+    })
 }
 
 fn body_fact(bytes: &[u8]) -> Option<BodyField>
@@ -97,7 +105,10 @@ fn body_fact(bytes: &[u8]) -> Option<BodyField>
     let a = working(bytes, 2)?;
     let b = working(bytes, 13)?;
     let c = working(bytes, 24)?;
-    Some(BodyField { kind, workings: [a, b, c] })
+    Some(BodyField {
+        kind,
+        workings: [a, b, c],
+    })
 }
 
 fn rule_ends(bytes: &[u8]) -> Option<Record>
@@ -105,7 +116,10 @@ fn rule_ends(bytes: &[u8]) -> Option<Record>
     ensures value { λ r. ⌜ r ≡ end-at (now (bytes .entry)) ⌝ }
 {
     let rank = operand(bytes, 2)?;
-    Some(Record::RuleEnds { band: bytes[1], rank })
+    Some(Record::RuleEnds {
+        band: bytes[1],
+        rank,
+    })
 }
 
 fn goal(bytes: &[u8]) -> Option<Goal>
@@ -113,7 +127,10 @@ fn goal(bytes: &[u8]) -> Option<Goal>
     ensures value { λ r. ⌜ r ≡ goal-at (now (bytes .entry)) ⌝ }
 {
     let kind = below(bytes[1], 32)?;
-    Some(Goal { kind, values: [signed(bytes, 2), signed(bytes, 6), signed(bytes, 10)] })
+    Some(Goal {
+        kind,
+        values: [signed(bytes, 2), signed(bytes, 6), signed(bytes, 10)],
+    })
 }
 
 fn working(bytes: &[u8], at: usize) -> Option<WorkingField>
@@ -123,7 +140,11 @@ fn working(bytes: &[u8], at: usize) -> Option<WorkingField>
     let operation = operation(bytes[at])?;
     let first = operand(bytes, at + 1)?;
     let second = operand(bytes, at + 6)?;
-    Some(WorkingField { operation, first, second })
+    Some(WorkingField {
+        operation,
+        first,
+        second,
+    })
 }
 
 fn operand(bytes: &[u8], at: usize) -> Option<Operand>
@@ -140,7 +161,11 @@ fn operand(bytes: &[u8], at: usize) -> Option<Operand>
 fn variable(number: u32) -> Option<Operand>
     ensures value { λ r. ⌜ r ≡ variable-of number ⌝ }
 {
-    if number < 12 { Some(Operand::Variable(number as u8)) } else { None }
+    if number < 12 {
+        Some(Operand::Variable(number as u8))
+    } else {
+        None
+    }
 }
 
 fn operation(byte: u8) -> Option<Operation>

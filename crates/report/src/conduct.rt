@@ -34,13 +34,24 @@ pub enum Report<S: Store, H: Host, O: Order> {
 }
 
 /// Reads a week file, hands its goal facts in, and steps until the run has ended.
-pub fn conduct<S: Store + Drop, H: Host + Drop, O: Order + Drop>(heap: Global, file: &[u8], store: S, host: H, order: O) -> Result<Report<S, H, O>, NoMemory> {
+pub fn conduct<S: Store + Drop, H: Host + Drop, O: Order + Drop>(
+    heap: Global,
+    file: &[u8],
+    store: S,
+    host: H,
+    order: O,
+) -> Result<Report<S, H, O>, NoMemory> {
     let reader = Reader::new(heap)?;
     let week = match reader.read(file) {
         Ok(week) => week,
         Err(at) => return Ok(Report::Unread(of_reading(at))),
     };
-    let Week { book, start, goals, fault } = week;
+    let Week {
+        book,
+        start,
+        goals,
+        fault,
+    } = week;
     let mut run = match Run::open(heap, book, store, host, order) {
         Ok(run) => run,
         Err(_) => return Err(NoMemory),
@@ -56,7 +67,11 @@ pub fn conduct<S: Store + Drop, H: Host + Drop, O: Order + Drop>(heap: Global, f
 }
 
 // Hands the goal facts in until one is refused.
-fn hand_in_all<S: Store, H: Host, O: Order>(run: &mut Run<S, H, O>, goals: &[Goal], start: usize) -> Option<Refused> {
+fn hand_in_all<S: Store, H: Host, O: Order>(
+    run: &mut Run<S, H, O>,
+    goals: &[Goal],
+    start: usize,
+) -> Option<Refused> {
     let mut place = start;
     for goal in goals {
         if let Err(refusal) = run.hand_in(goal.kind, goal.values) {

@@ -25,7 +25,13 @@ pub enum Outcome {
 pub fn of_reading(at: At) -> Refused
     ensures value { λ r. ⌜ r ≡ refused-reading at ⌝ }
 {
-    Refused { number: at.fault.number(), place: at.place, fact: 0, working: 0, cause: 0 }
+    Refused {
+        number: at.fault.number(),
+        place: at.place,
+        fact: 0,
+        working: 0,
+        cause: 0,
+    }
 }
 
 /// The refusal of a goal fact, with the place of its record.
@@ -33,7 +39,13 @@ pub fn of_hand_in(place: usize, refusal: Refusal) -> Refused
     ensures value { λ r. ⌜ r ≡ refused-hand-in place refusal ⌝ }
 {
     let numbers = refusal.numbers();
-    Refused { number: numbers.number, place, fact: numbers.fact, working: numbers.working, cause: numbers.cause }
+    Refused {
+        number: numbers.number,
+        place,
+        fact: numbers.fact,
+        working: numbers.working,
+        cause: numbers.cause,
+    }
 }
 
 /// The refusal of a firing, with its rule.
@@ -42,5 +54,11 @@ pub fn of_firing(refusal: Refusal) -> Refused
 {
     let numbers = refusal.numbers();
     let place = numbers.rule as usize;
-    Refused { number: numbers.number, place, fact: numbers.fact, working: numbers.working, cause: numbers.cause }
+    Refused {
+        number: numbers.number,
+        place,
+        fact: numbers.fact,
+        working: numbers.working,
+        cause: numbers.cause,
+    }
 }

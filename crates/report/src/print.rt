@@ -12,7 +12,10 @@ use std::io::Write;
 use store::Store;
 
 /// Prints the roll, the store in rising id and the last line; of a refused reading that line alone.
-pub fn print<S: Store, H: Host, O: Order>(out: &mut impl Write, report: &Report<S, H, O>) -> io::Result<()> {
+pub fn print<S: Store, H: Host, O: Order>(
+    out: &mut impl Write,
+    report: &Report<S, H, O>,
+) -> io::Result<()> {
     match report {
         Report::Unread(refused) => refused_line(out, *refused),
         Report::Ended(run, outcome) => {
@@ -33,7 +36,10 @@ fn roll_lines(out: &mut impl Write, roll: &[Entry]) -> io::Result<()> {
     Ok(())
 }
 
-fn store_lines<S: Store, H: Host, O: Order>(out: &mut impl Write, run: &Run<S, H, O>) -> io::Result<()> {
+fn store_lines<S: Store, H: Host, O: Order>(
+    out: &mut impl Write,
+    run: &Run<S, H, O>,
+) -> io::Result<()> {
     for id in 1..run.next_id() {
         if let Some(fact) = run.read(id) {
             fact_line(out, "S", fact)?;

@@ -13,12 +13,12 @@ module _ {A : Type 0} (test : A → Bool) (xs : List A) (i : ℕ) where
 
   -- the item fails: the rest decides
   pub any-more : (d : A) → i < length xs → false ≡ test (getD xs i d)
-    → any test (drop i xs) ≡ any test xs → any test (drop (i + 1) xs) ≡ any test xs
+      → any test (drop i xs) ≡ any test xs → any test (drop (i + 1) xs) ≡ any test xs
   any-more d h t k = ap (λ b. b || any test (drop (i + 1) xs)) t ∙ sym (any-at d h) ∙ k
 
   -- the item passes, and so does the whole
   pub any-found : (d : A) → i < length xs → true ≡ test (getD xs i d)
-    → any test (drop i xs) ≡ any test xs → true ≡ any test xs
+      → any test (drop i xs) ≡ any test xs → true ≡ any test xs
   any-found d h t k = ap (λ b. b || any test (drop (i + 1) xs)) t ∙ sym (any-at d h) ∙ k
 
   -- nothing is left

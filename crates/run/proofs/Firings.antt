@@ -43,12 +43,12 @@ module _ {R : Type 0} (s : Setup R) (t : State) (n : ℕ) (is : List ℕ) where
   cleared = clearing (s .works) (t .facts) rule n is (s .rows) (length (t .roll))
 
   by-tests : (w : Result (List Written) Refusal) (k : List Written → Bool) (b : Bool) (e f : Refusal)
-    → and-then w (λ ws. and-then (unless (k ws) e) (λ _. and-then (unless b f) (λ _. Ok (after-firing s t rule n is ws))))
+      → and-then w (λ ws. and-then (unless (k ws) e) (λ _. and-then (unless b f) (λ _. Ok (after-firing s t rule n is ws))))
       ≡ and-then (and-then w (λ ws. and-then (unless (k ws) e) (λ _. and-then (unless b f) (λ _. Ok ws)))) (λ ws. Ok (after-firing s t rule n is ws))
   by-tests (Err x) k b e f = refl
   by-tests (Ok ws) k b e f = by-rows (k ws) b where
     by-rows : (c d : Bool)
-      → and-then (unless c e) (λ _. and-then (unless d f) (λ _. Ok (after-firing s t rule n is ws)))
+        → and-then (unless c e) (λ _. and-then (unless d f) (λ _. Ok (after-firing s t rule n is ws)))
         ≡ and-then (and-then (unless c e) (λ _. and-then (unless d f) (λ _. Ok ws))) (λ vs. Ok (after-firing s t rule n is vs))
     by-rows true true = refl
     by-rows true false = refl
@@ -68,13 +68,13 @@ module _ {R : Type 0} (s : Setup R) (t : State) (n : ℕ) (is : List ℕ) where
 
   -- the rule and the length of the roll as the code has them
   pub as-cleared : (q : Rule) (k : ℕ) (x : Result (List Written) Refusal) → q ≡ rule → k ≡ length (t .roll)
-    → x ≡ clearing (s .works) (t .facts) q n is (s .rows) k → x ≡ cleared
+      → x ≡ clearing (s .works) (t .facts) q n is (s .rows) k → x ≡ cleared
   as-cleared q k x e l h =
       h ∙ ap (λ p. clearing (s .works) (t .facts) p n is (s .rows) k) e ∙ ap (clearing (s .works) (t .facts) rule n is (s .rows)) l
 
   pub as-changed : (q : Rule) (vs ws : List Written) (live : List Fact) → q ≡ rule → vs ≡ ws
-    → (Room (taking-off (taken-ids (q .heads) is) (t .facts)) (s .rows) (t .next) vs → live ≡ taking-off (taken-ids (q .heads) is) (t .facts) ++ numbered-from (t .next) vs)
-    → Room (taking-off taken (t .facts)) (s .rows) (t .next) ws → live ≡ taking-off taken (t .facts) ++ numbered-from (t .next) ws
+      → (Room (taking-off (taken-ids (q .heads) is) (t .facts)) (s .rows) (t .next) vs → live ≡ taking-off (taken-ids (q .heads) is) (t .facts) ++ numbered-from (t .next) vs)
+      → Room (taking-off taken (t .facts)) (s .rows) (t .next) ws → live ≡ taking-off taken (t .facts) ++ numbered-from (t .next) ws
   as-changed q vs ws live e f k =
       subst (λ (p : Rule). Room (taking-off (taken-ids (p .heads) is) (t .facts)) (s .rows) (t .next) ws → live ≡ taking-off (taken-ids (p .heads) is) (t .facts) ++ numbered-from (t .next) ws) e
       (subst (λ xs. Room (taking-off (taken-ids (q .heads) is) (t .facts)) (s .rows) (t .next) xs → live ≡ taking-off (taken-ids (q .heads) is) (t .facts) ++ numbered-from (t .next) xs) f k)
@@ -88,7 +88,7 @@ module _ {R : Type 0} (s : Setup R) (t : State) (n : ℕ) (is : List ℕ) where
 
   -- the rows that are wanted are there
   roomy : (w : Result (List Written) Refusal) (rows : ℕ) (b : Bool) (e f : Refusal) (ws : List Written)
-    → Ok ws ≡ and-then w (λ vs. and-then (unless (leb (length vs) rows) e) (λ _. and-then (unless b f) (λ _. Ok vs))) → length ws ≤ rows
+      → Ok ws ≡ and-then w (λ vs. and-then (unless (leb (length vs) rows) e) (λ _. and-then (unless b f) (λ _. Ok vs))) → length ws ≤ rows
   roomy (Err x) rows b e f ws h = absurd (let z : _≡_ {A = ℕ} 0 1 = cc in omega arith)
   roomy (Ok vs) rows b e f ws h = by-rows (leb (length vs) rows) refl b h where
     by-rows : (c : Bool) → leb (length vs) rows ≡ c → (d : Bool) → Ok ws ≡ and-then (unless c e) (λ _. and-then (unless d f) (λ _. Ok vs)) → length ws ≤ rows
@@ -102,7 +102,7 @@ module _ {R : Type 0} (s : Setup R) (t : State) (n : ℕ) (is : List ℕ) where
       (refusal.NoRow (site.Rule n)) (refusal.RollFull (site.Rule n)) ws h
 
   module _ (ok : Fireable s t n is) (ws : List Written) (h : Ok ws ≡ cleared) (above : Above (t .next) (t .facts)) (within : length (t .facts) ≤ s .rows)
-    (few : length ws ≤ 4) (small : t .next ≤ 4097) where
+      (few : length ws ≤ 4) (small : t .next ≤ 4097) where
     pub firing-room : Room (taking-off taken (t .facts)) (s .rows) (t .next) ws
     firing-room = record {
       above = above-taking-off taken (t .facts) (t .next) above;
@@ -111,9 +111,9 @@ module _ {R : Type 0} (s : Setup R) (t : State) (n : ℕ) (is : List ℕ) where
     }
 
     pub firing-done : (live : List Fact) (roll : List Entry) (next : ℕ) (failed : Bool) (r : Stepped)
-      → live ≡ taking-off taken (t .facts) ++ numbered-from (t .next) ws → roll ≡ t .roll ++ Fired (record { rule = n; ids = is }) ∷ []
-      → next ≡ t .next + length ws → failed ≡ rule .fails → r ≡ cond failed stepped.Failed stepped.Fired
-      → FiresTo s t n is (record { facts = live; roll = roll; next = next; failed = failed }) (Ok r)
+        → live ≡ taking-off taken (t .facts) ++ numbered-from (t .next) ws → roll ≡ t .roll ++ Fired (record { rule = n; ids = is }) ∷ []
+        → next ≡ t .next + length ws → failed ≡ rule .fails → r ≡ cond failed stepped.Failed stepped.Fired
+        → FiresTo s t n is (record { facts = live; roll = roll; next = next; failed = failed }) (Ok r)
     firing-done live roll next failed r a b c d e = record {
       value = ap Ok (e ∙ ap (λ x. cond x stepped.Failed stepped.Fired) d) ∙ ap (λ x. and-then x (λ (v : State). Ok (fired-or-failed v))) (sym (fires-ok ws h));
       after = same-state a b c d ∙ ap (λ x. kept-or x t) (sym (fires-ok ws h));
@@ -123,4 +123,4 @@ module _ {R : Type 0} (s : Setup R) (t : State) (n : ℕ) (is : List ℕ) where
     firing-below live next a c =
         subst (λ fs. Above next fs) (sym a)
         (subst (λ k. Above k (taking-off taken (t .facts) ++ numbered-from (t .next) ws)) (sym c)
-          (above-written (taking-off taken (t .facts)) ws (t .next) (above-taking-off taken (t .facts) (t .next) above)))
+        (above-written (taking-off taken (t .facts)) ws (t .next) (above-taking-off taken (t .facts) (t .next) above)))

@@ -75,12 +75,12 @@ module _ {R : Type 0} (s : Setup R) (t : State) (k : ℕ) (vs : List ℤ) where
       ∙ from-declared (arity-of (s .kinds) k) h₂
 
   module _ (admitted : Ok tt ≡ told (hand-in s t k vs)) (row : length (t .facts) < s .rows) (above : Above (t .next) (t .facts))
-    (ok : Bool) (live : List Fact) (added : Added (handed s t k vs) (t .facts) (s .rows) ok live) where
+      (ok : Bool) (live : List Fact) (added : Added (handed s t k vs) (t .facts) (s .rows) ok live) where
     live-is : live ≡ t .facts ++ handed s t k vs ∷ []
     live-is = added .live ∙ ap (λ b. cond b (t .facts ++ handed s t k vs ∷ []) (t .facts)) (added .value above ∙ lt-ltb (length (t .facts)) (s .rows) row)
 
     pub hand-in-done : (roll : List Entry) (n : ℕ) → roll ≡ t .roll ++ HandedIn (handed s t k vs) ∷ [] → n ≡ t .next + 1
-      → HandsIn s t k vs (record { facts = live; roll = roll; next = n; failed = t .failed }) (Ok (t .next))
+        → HandsIn s t k vs (record { facts = live; roll = roll; next = n; failed = t .failed }) (Ok (t .next))
     hand-in-done roll n e m =
         let x = hand-in-accepted admitted in
         record {

@@ -21,7 +21,7 @@ abbrev state : List Fact → List Entry → ℕ → Bool → State
 state fs rs n b = record { facts = fs; roll = rs; next = n; failed = b }
 
 pub same-state : {fs gs : List Fact} {rs qs : List Entry} {n m : ℕ} {b c : Bool} → fs ≡ gs → rs ≡ qs → n ≡ m → b ≡ c
-  → _≡_ {A = State} (record { facts = fs; roll = rs; next = n; failed = b }) (record { facts = gs; roll = qs; next = m; failed = c })
+    → _≡_ {A = State} (record { facts = fs; roll = rs; next = n; failed = b }) (record { facts = gs; roll = qs; next = m; failed = c })
 same-state p q r s = λ i. state (p i) (q i) (r i) (s i)
 
 module _ {A E : Type 0} where
@@ -40,5 +40,5 @@ module _ {A E : Type 0} where
 
 -- a setup with as many rows
 pub same-rows : {K : Type 0} (b : Book) (value : ℤ → Bool) (says : Comparator → ℤ → ℤ → Bool) (works : Working ℤ → Result ℤ Cause) (rank : ℕ → ℤ → K) (better : K → K → Bool)
-  {m n : ℕ} → m ≡ n → setting b m value says works rank better ≡ setting b n value says works rank better
+    {m n : ℕ} → m ≡ n → setting b m value says works rank better ≡ setting b n value says works rank better
 same-rows b value says works rank better e = ap (λ k. setting b k value says works rank better) e

@@ -96,7 +96,7 @@ module _ {R : Type 0} (s : Setup R) (t : State) where
           }
 
       by-outcome : (u : State) (r : Result Stepped Refusal) (x : Result State Refusal) → fire s t (d .rule) (d .ids) ≡ x
-        → r ≡ and-then x (λ v. Ok (fired-or-failed v)) → u ≡ kept-or x t → Steps s t u r
+          → r ≡ and-then x (λ v. Ok (fired-or-failed v)) → u ≡ kept-or x t → Steps s t u r
       by-outcome u r (Err f) h a k = subst (Steps s t u) (sym a) (stays live d is-due h k)
       by-outcome u r (Ok v) h a k = by-failed (v .failed) refl where
         by-failed : (b : Bool) → v .failed ≡ b → Steps s t u r

@@ -21,11 +21,21 @@ use meaning::written::Written;
 use rules::Rule;
 use store::Store;
 
-const BLANK: Written = Written { kind: 0, values: [0; 3] };
+const BLANK: Written = Written {
+    kind: 0,
+    values: [0; 3],
+};
 
 /// The body facts of a firing, or why it is refused: the body cannot be worked out, there are too
 /// few rows, or the roll is full.
-pub fn clear_firing<S: Store, H: Host>(store: &S, host: &H, rolled: usize, rule: &Rule, number: u8, ids: [Id; 4]) -> Result<Few<Written, 4>, Refusal>
+pub fn clear_firing<S: Store, H: Host>(
+    store: &S,
+    host: &H,
+    rolled: usize,
+    rule: &Rule,
+    number: u8,
+    ids: [Id; 4],
+) -> Result<Few<Written, 4>, Refusal>
     ensures place { λ r. ⌜ made r (λ _. rolled < 1024) ⌝ }
     ensures value { λ r. ⌜ (S·Store.sound (now (store .entry)) → listed-or r ≡ clearing (H·Host.works (now (host .entry))) (S·Store.live (now (store .entry))) (rule-of (now (rule .entry))) number ids (S·Store.rows (now (store .entry))) rolled) ⌝ }
 {
@@ -42,7 +52,13 @@ pub fn clear_firing<S: Store, H: Host>(store: &S, host: &H, rolled: usize, rule:
 }
 
 // The body facts; a rule with fail has none, and nothing of it is put to the host.
-fn work_out<S: Store, H: Host>(store: &S, host: &H, rule: &Rule, number: u8, ids: [Id; 4]) -> Result<Few<Written, 4>, Refusal>
+fn work_out<S: Store, H: Host>(
+    store: &S,
+    host: &H,
+    rule: &Rule,
+    number: u8,
+    ids: [Id; 4],
+) -> Result<Few<Written, 4>, Refusal>
     ensures value { λ r. ⌜ (S·Store.sound (now (store .entry)) → listed-or r ≡ working-out (H·Host.works (now (host .entry))) (S·Store.live (now (store .entry))) (rule-of (now (rule .entry))) number ids) ⌝ }
 {
     if rule.fails {

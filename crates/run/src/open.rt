@@ -23,7 +23,13 @@ pub struct Unopened<S, H, O> {
 impl<S: Store, H: Host, O: Order> Run<S, H, O> {
     /// Opens a run: the store is cleared and the roll is empty. It claims the memory that the run
     /// will need; where there is none, everything is handed back, the store cleared.
-    pub fn open(heap: Global, book: Book, store: S, host: H, order: O) -> Result<Run<S, H, O>, Unopened<S, H, O>>
+    pub fn open(
+        heap: Global,
+        book: Book,
+        store: S,
+        host: H,
+        order: O,
+    ) -> Result<Run<S, H, O>, Unopened<S, H, O>>
         ensures opened { λ r. ⌜ Cases r
             (λ run. (setup-of S·Store.rows H·Host.value H·Host.says H·Host.works O·Order.rank O·Order.better run ≡ setting (book-of book) (S·Store.rows store) (H·Host.value host) (H·Host.says host) (H·Host.works host) (O·Order.rank order) (O·Order.better order)) × (state-of S·Store.live run ≡ opening) × Standing S·Store.sound S·Store.live run)
             (λ u. (u .book ≡ book) × (u .host ≡ host) × (u .order ≡ order) × (S·Store.rows (u .store) ≡ S·Store.rows store)) ⌝ }
@@ -31,8 +37,21 @@ impl<S: Store, H: Host, O: Order> Run<S, H, O> {
         let mut store = store;
         store.clear();
         match Vec::with_capacity(heap, ROLL_PLACES) {
-            Ok(roll) => Ok(Run { book, store, host, order, roll, next: 1, failed: false }),
-            Err(_) => Err(Unopened { book, store, host, order }),
+            Ok(roll) => Ok(Run {
+                book,
+                store,
+                host,
+                order,
+                roll,
+                next: 1,
+                failed: false,
+            }),
+            Err(_) => Err(Unopened {
+                book,
+                store,
+                host,
+                order,
+            }),
         }
     }
 }

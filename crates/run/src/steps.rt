@@ -34,7 +34,13 @@ impl<S: Store, H: Host, O: Order> Run<S, H, O> {
         if self.failed {
             return Err(Refusal::Failed);
         }
-        match due_instance(&self.store, &self.host, &self.order, &self.book, self.roll.as_slice()) {
+        match due_instance(
+            &self.store,
+            &self.host,
+            &self.order,
+            &self.book,
+            self.roll.as_slice(),
+        ) {
             None => Ok(Stepped::Final),
             Some(due) => self.fire(due.rule, due.ids),
         }
@@ -53,7 +59,8 @@ impl<S: Store, H: Host, O: Order> Run<S, H, O> {
         let body = clear_firing(&self.store, &self.host, rolled, rule, number, ids)?;
         let fails = rule.fails;
         change_store(&mut self.store, rule, ids, body.as_slice(), self.next);
-        self.roll.push_reserved(Entry::Fired(Firing { rule: number, ids }));
+        self.roll
+            .push_reserved(Entry::Fired(Firing { rule: number, ids }));
         self.next += body.len() as u32;
         self.failed = fails;
         Ok(answer(fails))
@@ -74,5 +81,9 @@ fn numbered(rules: &[Rule], number: u8) -> Option<&Rule>
 fn answer(fails: bool) -> Stepped
     ensures value { λ r. ⌜ r ≡ cond fails stepped.Failed stepped.Fired ⌝ }
 {
-    if fails { Stepped::Failed } else { Stepped::Fired }
+    if fails {
+        Stepped::Failed
+    } else {
+        Stepped::Fired
+    }
 }

@@ -72,14 +72,14 @@ module _ (levels : List Level) (count : ℕ) (reached : 0 < count) (few : count 
 
   module _ {R : Type 0} (s : Setup R) (t : State) (n : ℕ) (r : Rule) (hs : List Head) (heads : hs ≡ r .heads) (best : Option (Due R)) where
     pub goes-back : Partnered (getD hs at no-head) (take at (level .ids)) (level .env) (t .facts) (level .from) None
-      → Advanced s t n r (take count levels) (take at levels) best best
+        → Advanced s t n r (take count levels) (take at levels) best best
     goes-back none =
         subst (λ xs. Advanced s t n r xs before best best) (sym was)
         (step-back s t n r before level at before-length best
-          (subst (λ xs. Partnered (getD xs at no-head) (take at (level .ids)) (level .env) (t .facts) (level .from) None) heads none))
+        (subst (λ xs. Partnered (getD xs at no-head) (take at (level .ids)) (level .env) (t .facts) (level .from) None) heads none))
 
     module _ (p : Partner) (m c : Level) (on : m ≡ record { ids = level .ids; env = level .env; from = p .after }) (next : c ≡ level-after level at p)
-      (found : Partnered (getD hs at no-head) (take at (level .ids)) (level .env) (t .facts) (level .from) (Some p)) where
+        (found : Partnered (getD hs at no-head) (take at (level .ids)) (level .env) (t .facts) (level .from) (Some p)) where
       same-ids : m .ids ≡ level .ids
       same-ids = ap (λ (x : Level). x .ids) on
 
@@ -93,16 +93,16 @@ module _ (levels : List Level) (count : ℕ) (reached : 0 < count) (few : count 
       found-here = subst (λ xs. Partnered (getD xs at no-head) (take at (level .ids)) (level .env) (t .facts) (level .from) (Some p)) heads found
 
       pub completes : at + 1 ≡ length hs → (after : Option (Due R)) → after ≡ considered (s .says) (s .rank) (s .better) (t .roll) n r (c .ids) (c .env) best
-        → Advanced s t n r (take count levels) (take count (set levels at m)) best after
+          → Advanced s t n r (take count levels) (take count (set levels at m)) best after
       completes last after e =
           subst (λ x. Advanced s t n r (take count levels) (take count (set levels at m)) best x) (sym e)
           (subst (λ xs. Advanced s t n r (take count levels) xs best (considered (s .says) (s .rank) (s .better) (t .roll) n r (c .ids) (c .env) best)) (sym (looked-on m))
-            (subst (λ xs. Advanced s t n r xs (before ++ m ∷ []) best (considered (s .says) (s .rank) (s .better) (t .roll) n r (c .ids) (c .env) best)) (sym was)
-              (step-last s t n r before level at before-length best p m same-ids same-env (ap (λ (x : Level). x .from) on) found-here c next here (last ∙ ap length heads))))
+          (subst (λ xs. Advanced s t n r xs (before ++ m ∷ []) best (considered (s .says) (s .rank) (s .better) (t .roll) n r (c .ids) (c .env) best)) (sym was)
+          (step-last s t n r before level at before-length best p m same-ids same-env (ap (λ (x : Level). x .from) on) found-here c next here (last ∙ ap length heads))))
 
       pub goes-on : at + 1 < length hs → count < 4 → Advanced s t n r (take count levels) (take (at + 2) (set (set levels at m) (at + 1) c)) best best
       goes-on more h =
           let m-less : at + 1 < length (r .heads) = subst (λ xs. at + 1 < length xs) heads more in
           subst (λ xs. Advanced s t n r (take count levels) xs best best) (sym (opened m c h))
           (subst (λ xs. Advanced s t n r xs ((before ++ m ∷ []) ++ c ∷ []) best best) (sym was)
-            (step-more s t n r before level at before-length best p m same-ids same-env (ap (λ (x : Level). x .from) on) found-here c next here m-less))
+          (step-more s t n r before level at before-length best p m same-ids same-env (ap (λ (x : Level). x .from) on) found-here c next here m-less))

@@ -41,7 +41,7 @@ module _ {R : Type 0} (s : Setup R) (t : State) (n : ℕ) (r : Rule) where
   improves-is k (Some d) = refl
 
   by-tests : (waits better : Bool) (d : Due R) (best : Option (Due R)) → improves s t (d .rank) best ≡ better
-    → folded (chosen s t) best (cond waits (d ∷ []) [] ++ []) ≡ cond (better && waits) (Some d) best
+      → folded (chosen s t) best (cond waits (d ∷ []) [] ++ []) ≡ cond (better && waits) (Some d) best
   by-tests true true d best e = ap (λ b. cond b (Some d) best) e
   by-tests true false d best e = ap (λ b. cond b (Some d) best) e
   by-tests false true d best e = refl
@@ -74,8 +74,8 @@ module _ (live : List Fact) (hs : List Head) where
 
     -- a partner, and the level looking on
     pub rest-found : (m : Level) (id : ℕ) (e : Env) → m .ids ≡ l .ids → m .env ≡ l .env
-      → partners (head-at hs j) (take j (l .ids)) (l .env) (since (l .from) live) ≡ record { id = id; env = e } ∷ partners (head-at hs j) (take j (l .ids)) (l .env) (since (m .from) live)
-      → rest live hs j l ≡ instances live (drop (suc j) hs) (take j (l .ids) ++ id ∷ []) e ++ rest live hs j m
+        → partners (head-at hs j) (take j (l .ids)) (l .env) (since (l .from) live) ≡ record { id = id; env = e } ∷ partners (head-at hs j) (take j (l .ids)) (l .env) (since (m .from) live)
+        → rest live hs j l ≡ instances live (drop (suc j) hs) (take j (l .ids) ++ id ∷ []) e ++ rest live hs j m
     rest-found m id e same-ids same-env found =
         ap (joined (deeper j (take j (l .ids)))) found
         ∙ ap (λ is. instances live (drop (suc j) hs) (take j (l .ids) ++ id ∷ []) e ++ joined (deeper j (take j is)) (partners (head-at hs j) (take j is) (l .env) (since (m .from) live))) (sym same-ids)
@@ -89,7 +89,7 @@ module _ (live : List Fact) (hs : List Head) where
 
   -- the next head begins with all the live facts
   pub rest-next : (j : ℕ) (used : List ℕ) (e : Env) (c : Level) → j < length hs → take j (c .ids) ≡ used → c .env ≡ e → c .from ≡ 0
-    → instances live (drop j hs) used e ≡ rest live hs j c
+      → instances live (drop j hs) used e ≡ rest live hs j c
   rest-next j used e c h ids env start =
       let o : j + 1 ≡ suc j = omega arith in
       ap (λ xs. instances live xs used e) (drop-more hs j no-head h)

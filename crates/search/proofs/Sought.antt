@@ -40,11 +40,11 @@ rule-headed rules i rule e h g =
     both-left (headed (rule-of rule)) (parts-bound (rule-of rule) && bound (rule-of rule .heads) (rule-of rule .rank)) (all-at closed rule-of rules i rule e h g)
 
 module _ {R : Type 0} (s : Setup R) (t : State) (rules : List RuleData) (i : ℕ) (best : Option (Due R)) (all-of : Option (Due R))
-  (left : sought s t best (i + 1) (map rule-of (drop i rules)) ≡ all-of) where
+    (left : sought s t best (i + 1) (map rule-of (drop i rules)) ≡ all-of) where
   -- one rule more
   pub sought-more : (rule : RuleData) (more : Option (Due R)) → i < length rules → rule ≡ getD rules i rule
-    → more ≡ offered s t (i + 1) (rule-of rule) best (instances (t .facts) (rule-of rule .heads) [] unbound)
-    → sought s t more (i + 1 + 1) (map rule-of (drop (i + 1) rules)) ≡ all-of
+      → more ≡ offered s t (i + 1) (rule-of rule) best (instances (t .facts) (rule-of rule .heads) [] unbound)
+      → sought s t more (i + 1 + 1) (map rule-of (drop (i + 1) rules)) ≡ all-of
   sought-more rule more h g e =
       ap (λ b. sought s t b (i + 1 + 1) (map rule-of (drop (i + 1) rules))) e
       ∙ ap (λ n. sought s t (offered s t (i + 1) (rule-of rule) best (instances (t .facts) (rule-of rule .heads) [] unbound)) n (map rule-of (drop (i + 1) rules))) (add-one (i + 1))
@@ -59,5 +59,5 @@ module _ {R : Type 0} (s : Setup R) (t : State) (rules : List RuleData) (i : ℕ
 
 -- what is found is the due instance in words
 pub found-due : {R : Type 0} (s : Setup R) (t : State) (r : Option (Due R)) → r ≡ due-of s t → Lawful (s .better) → Rising (t .facts)
-  → all closed (s .rules) ≡ true → all small (s .rules) ≡ true → DueIs s t r
+    → all closed (s .rules) ≡ true → all small (s .rules) ≡ true → DueIs s t r
 found-due s t r e laws up c m = subst (DueIs s t) (sym e) (due-is s t laws up c m)

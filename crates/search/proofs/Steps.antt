@@ -45,7 +45,7 @@ module _ {R : Type 0} (s : Setup R) (t : State) (n : ℕ) (r : Rule) (ls : List 
   module _ (best : Option (Due R)) where
     -- no partner is left
     pub step-back : partners (head-at (r .heads) at) (take at (l .ids)) (l .env) (since (l .from) (t .facts)) ≡ []
-      → Advanced s t n r (ls ++ l ∷ []) ls best best
+        → Advanced s t n r (ls ++ l ∷ []) ls best best
     step-back none = record {
       blanks = λ b. blanks-front 0 ls l b;
       value = λ b.
@@ -53,9 +53,9 @@ module _ {R : Type 0} (s : Setup R) (t : State) (n : ℕ) (r : Rule) (ls : List 
     }
 
     module _ (p : Partner) (m : Level) (same-ids : m .ids ≡ l .ids) (same-env : m .env ≡ l .env) (on : m .from ≡ p .after)
-      (found : partners (head-at (r .heads) at) (take at (l .ids)) (l .env) (since (l .from) (t .facts))
+        (found : partners (head-at (r .heads) at) (take at (l .ids)) (l .env) (since (l .from) (t .facts))
         ≡ record { id = p .id; env = p .env } ∷ partners (head-at (r .heads) at) (take at (l .ids)) (l .env) (since (p .after) (t .facts)))
-      (c : Level) (next : c ≡ level-after l at p) (four : at < 4) where
+        (c : Level) (next : c ≡ level-after l at p) (four : at < 4) where
       abbrev chosen-ids : List ℕ
       chosen-ids = take at (l .ids) ++ p .id ∷ []
 
@@ -67,8 +67,8 @@ module _ {R : Type 0} (s : Setup R) (t : State) (n : ℕ) (r : Rule) (ls : List 
       left-split =
           left-last l
           ∙ ap (λ ms. ms ++ left ls)
-            (rest-found (t .facts) (r .heads) at l m (p .id) (p .env) same-ids same-env
-              (found ∙ ap (λ i. record { id = p .id; env = p .env } ∷ partners (head-at (r .heads) at) (take at (l .ids)) (l .env) (since i (t .facts))) (sym on)))
+          (rest-found (t .facts) (r .heads) at l m (p .id) (p .env) same-ids same-env
+          (found ∙ ap (λ i. record { id = p .id; env = p .env } ∷ partners (head-at (r .heads) at) (take at (l .ids)) (l .env) (since i (t .facts))) (sym on)))
           ∙ append-assoc onward (rest (t .facts) (r .heads) at m) (left ls)
           ∙ ap (λ ms. onward ++ ms) (sym (left-last m))
 
@@ -80,7 +80,7 @@ module _ {R : Type 0} (s : Setup R) (t : State) (n : ℕ) (r : Rule) (ls : List 
 
       -- an instance is complete
       pub step-last : at + 1 ≡ length (r .heads)
-        → Advanced s t n r (ls ++ l ∷ []) (ls ++ m ∷ []) best (considered (s .says) (s .rank) (s .better) (t .roll) n r (c .ids) (c .env) best)
+          → Advanced s t n r (ls ++ l ∷ []) (ls ++ m ∷ []) best (considered (s .says) (s .rank) (s .better) (t .roll) n r (c .ids) (c .env) best)
       step-last last = record {
         blanks = λ b. with-last m b same-ids;
         value = λ b. sym (
@@ -88,9 +88,9 @@ module _ {R : Type 0} (s : Setup R) (t : State) (n : ℕ) (r : Rule) (ls : List 
             ∙ offered-append s t n r best onward (left (ls ++ m ∷ []))
             ∙ ap (λ ms. offered s t n r (offered s t n r best ms) (left (ls ++ m ∷ []))) (rest-last (t .facts) (r .heads) at chosen-ids (p .env) last)
             ∙ ap (λ x. offered s t n r x (left (ls ++ m ∷ [])))
-              (offered-one s t n r best (record { ids = chosen-ids; env = p .env })
-                ∙ ap (λ is. considered (s .says) (s .rank) (s .better) (t .roll) n r is (p .env) best) (sym (ids-are b))
-                ∙ ap (λ e. considered (s .says) (s .rank) (s .better) (t .roll) n r (c .ids) e best) (sym env-is)));
+            (offered-one s t n r best (record { ids = chosen-ids; env = p .env })
+            ∙ ap (λ is. considered (s .says) (s .rank) (s .better) (t .roll) n r is (p .env) best) (sym (ids-are b))
+            ∙ ap (λ e. considered (s .says) (s .rank) (s .better) (t .roll) n r (c .ids) e best) (sym env-is)));
       }
 
       longer : 0 + length (ls ++ m ∷ []) ≡ suc at
@@ -115,7 +115,7 @@ module _ {R : Type 0} (s : Setup R) (t : State) (n : ℕ) (r : Rule) (ls : List 
             let h : suc at < length (r .heads) = omega arith in
             ap (offered s t n r best)
             (left-push (t .facts) (r .heads) 0 (ls ++ m ∷ []) c
-              ∙ ap (λ j. rest (t .facts) (r .heads) j c ++ left (ls ++ m ∷ [])) longer
-              ∙ ap (λ ms. ms ++ left (ls ++ m ∷ [])) (sym (rest-next (t .facts) (r .heads) (suc at) chosen-ids (p .env) c h (used-are b) env-is (ap (λ (x : Level). x .from) next)))
-              ∙ sym left-split);
+            ∙ ap (λ j. rest (t .facts) (r .heads) j c ++ left (ls ++ m ∷ [])) longer
+            ∙ ap (λ ms. ms ++ left (ls ++ m ∷ [])) (sym (rest-next (t .facts) (r .heads) (suc at) chosen-ids (p .env) c h (used-are b) env-is (ap (λ (x : Level). x .from) next)))
+            ∙ sym left-split);
       }

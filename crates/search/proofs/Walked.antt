@@ -27,7 +27,7 @@ module _ {R : Type 0} (s : Setup R) (t : State) (n : ℕ) (r : Rule) (head : hea
       ap (λ k. take k levels) one ∙ ap (take 1) e
 
   pub walked : (levels ends : List Level) (count left : ℕ) → levels ≡ replicate 4 first-level → count ≡ min (length (r .heads)) 1 → left ≤ 0
-    → Advanced s t n r (take count levels) (take left ends) start best → best ≡ offered s t n r start (instances (t .facts) (r .heads) [] unbound)
+      → Advanced s t n r (take count levels) (take left ends) start best → best ≡ offered s t n r start (instances (t .facts) (r .heads) [] unbound)
   walked levels ends count left e c none a =
       let zero-left : left ≡ 0 = omega arith in
       let b = subst (λ xs. Advanced s t n r xs (take left ends) start best) (begins levels count e c) a in

@@ -13,7 +13,13 @@ use order::order::Order;
 use store::Store;
 
 /// The due instance: the best of those that wait, and of level ones the first by rule and ids.
-pub fn due_instance<S: Store, H: Host, O: Order>(store: &S, host: &H, order: &O, book: &Book, roll: &[Entry]) -> Option<Due<O::Rank>>
+pub fn due_instance<S: Store, H: Host, O: Order>(
+    store: &S,
+    host: &H,
+    order: &O,
+    book: &Book,
+    roll: &[Entry],
+) -> Option<Due<O::Rank>>
     ensures value { λ r. ⌜ (Ready S·Store.sound S·Store.live (now (store .entry)) → r ≡ due-of (asking (H·Host.says (now (host .entry))) (O·Order.rank (now (order .entry))) (O·Order.better (now (order .entry))) (book-of (now (book .entry)) .rules)) (seeing (S·Store.live (now (store .entry))) (now (roll .entry)))) ⌝ }
     ensures due { λ r. ⌜ (Ready S·Store.sound S·Store.live (now (store .entry)) → DueIs (asking (H·Host.says (now (host .entry))) (O·Order.rank (now (order .entry))) (O·Order.better (now (order .entry))) (book-of (now (book .entry)) .rules)) (seeing (S·Store.live (now (store .entry))) (now (roll .entry))) r) ⌝ }
 {

@@ -4,6 +4,5 @@
 //! and keeps the best instance met so far; the first met wins a tie. It allocates nothing. What it
 //! answers is the due instance of the definitions. Below stands matching; above, the run.
 
-
 pub mod due;
 mod walk;

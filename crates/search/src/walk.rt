@@ -3,6 +3,7 @@ ghost use mathlib.Core.Path.{_≡_};
 ghost use lib.ListN.{length};
 use facts::Id;
 use matching::env::Env;
+
 mod advance;
 pub mod over;
 

@@ -93,7 +93,11 @@ firings (Fired f ∷ es) = Fired f ∷ firings es
 abbrev pub depot : List Rule
 depot = record {
   heads = head true 2 (Variable 0) zero-at zero-at ∷ head true 1 (Variable 1) zero-at zero-at ∷ [];
-  guards = []; facts = writes 3 2 (copy 0) (copy 1) ∷ []; fails = false; band = 1; rank = Variable 1;
+  guards = [];
+  facts = writes 3 2 (copy 0) (copy 1) ∷ [];
+  fails = false;
+  band = 1;
+  rank = Variable 1;
 } ∷ []
 
 abbrev depot-week : Setup ℤ
@@ -108,18 +112,29 @@ paths =
     -- source(V) writes dist(V, 0)
     record {
       heads = head false 1 (Variable 0) zero-at zero-at ∷ [];
-      guards = []; facts = writes 3 2 (copy 0) (working.Copy zero-at) ∷ []; fails = false; band = 1; rank = Constant (pos 1);
+      guards = [];
+      facts = writes 3 2 (copy 0) (working.Copy zero-at) ∷ [];
+      fails = false;
+      band = 1;
+      rank = Constant (pos 1);
     }
     -- dist(V, D) is kept and dist(V, E) taken, where D is at most E
     ∷ record {
       heads = head false 3 (Variable 0) (Variable 1) zero-at ∷ head true 3 (Variable 0) (Variable 2) zero-at ∷ [];
       guards = record { comparator = comparator.AtMost; left = Variable 1; right = Variable 2 } ∷ [];
-      facts = []; fails = false; band = 1; rank = Constant (pos 1);
+      facts = [];
+      fails = false;
+      band = 1;
+      rank = Constant (pos 1);
     }
     -- dist(V, D), edge(V, C, U) write dist(U, D + C)
     ∷ record {
       heads = head false 3 (Variable 0) (Variable 1) zero-at ∷ head false 2 (Variable 0) (Variable 2) (Variable 3) ∷ [];
-      guards = []; facts = writes 3 2 (copy 3) (working.Sum (Variable 1) (Variable 2)) ∷ []; fails = false; band = 2; rank = Variable 1;
+      guards = [];
+      facts = writes 3 2 (copy 3) (working.Sum (Variable 1) (Variable 2)) ∷ [];
+      fails = false;
+      band = 2;
+      rank = Variable 1;
     }
     ∷ []
 
@@ -136,8 +151,11 @@ equal-distances = under paths-week (given 3 (pos 1) (pos 0) (pos 0) ∷ given 3 
 abbrev pub split : List Rule
 split = record {
   heads = head true 1 (Variable 0) zero-at zero-at ∷ [];
-  guards = []; facts = writes 2 1 (copy 0) (working.Copy zero-at) ∷ writes 2 1 (copy 0) (working.Copy zero-at) ∷ [];
-  fails = false; band = 0; rank = Variable 0;
+  guards = [];
+  facts = writes 2 1 (copy 0) (working.Copy zero-at) ∷ writes 2 1 (copy 0) (working.Copy zero-at) ∷ [];
+  fails = false;
+  band = 0;
+  rank = Variable 0;
 } ∷ []
 
 abbrev split-rows : ℕ → Setup ℤ
@@ -150,7 +168,11 @@ split-facts rows = under (split-rows rows) (given 1 (pos 1) (pos 0) (pos 0) ∷ 
 abbrev pub replaces : Working Operand → List Rule
 replaces w = record {
   heads = head true 1 (Variable 0) zero-at zero-at ∷ [];
-  guards = []; facts = writes 1 1 w (working.Copy zero-at) ∷ []; fails = false; band = 0; rank = Constant (pos 0);
+  guards = [];
+  facts = writes 1 1 w (working.Copy zero-at) ∷ [];
+  fails = false;
+  band = 0;
+  rank = Constant (pos 0);
 } ∷ []
 
 abbrev grows : Setup ℤ

@@ -8,5 +8,4 @@ ghost use Rattle.worked.specs.Worked.{Worked};
 /// The worked weeks come out as they are written down.
 pub fn worked_cases()
     ensures worked { λ _. ⌜ Worked ⌝ }
-{
-}
+{}

@@ -29,7 +29,11 @@ impl Level {
     pub fn first() -> Level
         ensures value { λ r. ⌜ r ≡ first-level ⌝ }
     {
-        Level { ids: [0; 4], env: UNBOUND, from: 0 }
+        Level {
+            ids: [0; 4],
+            env: UNBOUND,
+            from: 0,
+        }
     }
 
     /// The same head, looking on from an id.
@@ -55,7 +59,16 @@ impl Level {
 
 impl Walk {
     /// One step: the deepest level offers its next partner, or is done with.
-    pub fn advance<S: Store, H: Host, O: Order>(&mut self, store: &S, host: &H, order: &O, roll: &[Entry], number: u8, rule: &Rule, best: Option<Due<O::Rank>>) -> Option<Due<O::Rank>>
+    pub fn advance<S: Store, H: Host, O: Order>(
+        &mut self,
+        store: &S,
+        host: &H,
+        order: &O,
+        roll: &[Entry],
+        number: u8,
+        rule: &Rule,
+        best: Option<Due<O::Rank>>,
+    ) -> Option<Due<O::Rank>>
         requires reached { ⌜ 0 < now self .count ⌝ }
         requires within { ⌜ now self .count ≤ length (listed (now rule .heads)) ⌝ }
         ensures within { λ _. ⌜ now (self .exit) .count ≤ length (listed (now (rule .entry) .heads)) ⌝ }
@@ -76,7 +89,16 @@ impl Walk {
                 self.levels[at] = level.looking_from(partner.after);
                 let chosen = level.with_partner(at, partner);
                 if at + 1 == heads.len() {
-                    return consider(host, order, roll, number, rule, chosen.ids, chosen.env, best);
+                    return consider(
+                        host,
+                        order,
+                        roll,
+                        number,
+                        rule,
+                        chosen.ids,
+                        chosen.env,
+                        best,
+                    );
                 }
                 self.levels[at + 1] = chosen;
                 self.count = at + 2;
@@ -87,7 +109,14 @@ impl Walk {
 }
 
 // The next partner of the head at place `at`, with the ids of the heads before it.
-fn partner_at<S: Store>(store: &S, head: Head, ids: [Id; 4], at: usize, env: Env, from: Id) -> Option<Partner>
+fn partner_at<S: Store>(
+    store: &S,
+    head: Head,
+    ids: [Id; 4],
+    at: usize,
+    env: Env,
+    from: Id,
+) -> Option<Partner>
     requires { ⌜ at < 4 ⌝ }
     ensures later { λ r. ⌜ Later from r ⌝ }
     ensures found { λ r. ⌜ (Ready S·Store.sound S·Store.live (now (store .entry)) → Partnered head (take at ids) env (S·Store.live (now (store .entry))) from r) ⌝ }

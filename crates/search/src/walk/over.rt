@@ -25,12 +25,23 @@ impl Walk {
         ensures count { λ r. ⌜ r .count ≡ min heads 1 ⌝ }
     {
         let first = Level::first();
-        Walk { levels: [first; 4], count: heads.min(1) }
+        Walk {
+            levels: [first; 4],
+            count: heads.min(1),
+        }
     }
 }
 
 /// The best of the best so far and the instances of a rule that wait.
-pub fn best_of_rule<S: Store, H: Host, O: Order>(store: &S, host: &H, order: &O, roll: &[Entry], number: u8, rule: &Rule, start: Option<Due<O::Rank>>) -> Option<Due<O::Rank>>
+pub fn best_of_rule<S: Store, H: Host, O: Order>(
+    store: &S,
+    host: &H,
+    order: &O,
+    roll: &[Entry],
+    number: u8,
+    rule: &Rule,
+    start: Option<Due<O::Rank>>,
+) -> Option<Due<O::Rank>>
     ensures value { λ r. ⌜ (Ready S·Store.sound S·Store.live (now (store .entry)) → headed (rule-of (now (rule .entry))) ≡ true → r ≡ offered (asking (H·Host.says (now (host .entry))) (O·Order.rank (now (order .entry))) (O·Order.better (now (order .entry))) []) (seeing (S·Store.live (now (store .entry))) (now (roll .entry))) number (rule-of (now (rule .entry))) start (instances (S·Store.live (now (store .entry))) (listed (now (rule .entry) .heads)) [] unbound)) ⌝ }
 {
     let mut walk = Walk::start(rule.heads.len());

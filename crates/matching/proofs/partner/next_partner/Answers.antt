@@ -14,7 +14,8 @@ pub returns-in-Some-matched : need.returns-in-Some-matched
 returns-in-Some-matched g c = record {
   later = (
     omega (arith, c .in-Continue-after .ensures tt, c .in-Some .ensures tt .bound, c .loop-id .inv .0),
-    omega (arith, c .in-Continue-after .ensures tt));
+    omega (arith, c .in-Continue-after .ensures tt),
+  );
   found = λ r.
       walk-finds (c .args .head) (c .args .used .now) (c .args .env) (g .S·Store .live (c .args .store .now)) (c .args .from) (c .loop-id .at) (c .loop-id .inv .1 r) _ _ _ (g .S·Store·met .rising _ (r .kept))
       (c .in-Some .ensures tt .value (r .kept)) (c .in-Some-matched .ensures tt .value r) (c .in-Continue-after .ensures tt .1);
@@ -25,7 +26,8 @@ loop-id-again g c = (
   omega (arith, c .in-Continue-after .ensures tt, c .in-Some .ensures tt .bound, c .loop-id .inv .0),
   λ r.
       walk-passes (c .args .head) (c .args .used .now) (c .args .env) (g .S·Store .live (c .args .store .now)) (c .args .from) (c .loop-id .at) (c .loop-id .inv .1 r) _ _ (g .S·Store·met .rising _ (r .kept))
-      (c .in-Some .ensures tt .value (r .kept)) (c .in-rest-matched .ensures tt .value r) (c .in-Continue-after .ensures tt .1))
+      (c .in-Some .ensures tt .value (r .kept)) (c .in-rest-matched .ensures tt .value r) (c .in-Continue-after .ensures tt .1),
+)
 
 pub returns : need.returns
 returns g c = record { later = tt; found = λ r. walk-ends (c .args .head) (c .args .used .now) (c .args .env) (g .S·Store .live (c .args .store .now)) (c .args .from) (c .loop-id .at) (c .loop-id .inv .1 r) (c .in-rest .ensures tt .value (r .kept)) }

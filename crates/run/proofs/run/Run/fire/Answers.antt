@@ -30,7 +30,7 @@ state g r = state-of (g .S·Store .live) r
 pub returns-in-rest : need.returns-in-rest
 returns-in-rest g c =
     let long : length (c .rules .result .now) ≡ length (book-of (c .args .self .now .book) .rules) =
-        sym (length-map (c .rules .result .now) rule-of) ∙ ap length (c .rules .ensures .value) in
+    sym (length-map (c .rules .result .now) rule-of) ∙ ap length (c .rules .ensures .value) in
     record {
       kept = refl;
       standing = λ st ok. record { kept = st .kept; below = st .below };
@@ -40,7 +40,7 @@ returns-in-rest g c =
 pub returns-in-Break-body : need.returns-in-Break-body
 returns-in-Break-body g c =
     let rule-is : rule-of (c .in-Some .rule .now) ≡ rule-at (book-of (c .args .self .now .book) .rules) (c .args .number) =
-        c .in-Some .ensures tt .value ∙ ap (λ rs. rule-at rs (c .args .number)) (c .rules .ensures .value) in
+    c .in-Some .ensures tt .value ∙ ap (λ rs. rule-at rs (c .args .number)) (c .rules .ensures .value) in
     let p = err-from-errBy (c .from-residual .result) (c .from-residual .ensures .1) in
     let result-is : c .from-residual .result ≡ Err (c .in-Break-body .field-0 .0) = p .1 ∙ ap Err (p .2) in
     record {
@@ -49,12 +49,12 @@ returns-in-Break-body g c =
       fires = λ st ok.
           subst (λ r. FiresTo (setup g (c .args .self .now)) (state g (c .args .self .now)) (c .args .number) (c .args .ids) (state g (c .args .self .now)) r) (sym result-is)
           (firing-refused (setup g (c .args .self .now)) (state g (c .args .self .now)) (c .args .number) (c .args .ids) (c .in-Break-body .field-0 .0)
-            (as-cleared (setup g (c .args .self .now)) (state g (c .args .self .now)) (c .args .number) (c .args .ids) (rule-of (c .in-Some .rule .now)) (c .len-rolled .result) (Err (c .in-Break-body .field-0 .0)) rule-is
-              (c .len-rolled .ensures ∙ c .args .self .now .roll .ok .0) (c .in-Break-body .ensures tt .value (st .kept))));
+          (as-cleared (setup g (c .args .self .now)) (state g (c .args .self .now)) (c .args .number) (c .args .ids) (rule-of (c .in-Some .rule .now)) (c .len-rolled .result) (Err (c .in-Break-body .field-0 .0)) rule-is
+          (c .len-rolled .ensures ∙ c .args .self .now .roll .ok .0) (c .in-Break-body .ensures tt .value (st .kept))));
     }
 
 module _ (g : given.Over) (c : need.After-answer g) (st : Standing (g .S·Store .sound) (g .S·Store .live) (c .args .self .now))
-  (ok : Fireable (setup g (c .args .self .now)) (state g (c .args .self .now)) (c .args .number) (c .args .ids)) where
+    (ok : Fireable (setup g (c .args .self .now)) (state g (c .args .self .now)) (c .args .number) (c .args .ids)) where
   abbrev s : Setup (g .O·Rank .Denot)
   s = setup g (c .args .self .now)
 

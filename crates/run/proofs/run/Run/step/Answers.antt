@@ -44,7 +44,7 @@ module _ (g : given.Over) (r : The-run g) (st : Standing (g .S·Store .sound) (g
 
 -- what the search found, with the roll as the run has it
 found : (g : given.Over) (r : The-run g) (roll : List Entry) → roll ≡ vec-items (r .roll)
-  → due-of (asking (g .H·Host .says (r .host)) (g .O·Order .rank (r .order)) (g .O·Order .better (r .order)) (book-of (r .book) .rules)) (seeing (g .S·Store .live (r .store)) roll) ≡ due-of (setup g r) (state g r)
+    → due-of (asking (g .H·Host .says (r .host)) (g .O·Order .rank (r .order)) (g .O·Order .better (r .order)) (book-of (r .book) .rules)) (seeing (g .S·Store .live (r .store)) roll) ≡ due-of (setup g r) (state g r)
 found g r roll e =
     ap (λ es. due-of (asking (g .H·Host .says (r .host)) (g .O·Order .rank (r .order)) (g .O·Order .better (r .order)) (book-of (r .book) .rules)) (seeing (g .S·Store .live (r .store)) es)) e
 

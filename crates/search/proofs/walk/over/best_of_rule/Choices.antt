@@ -13,7 +13,7 @@ abbrev pub Inv-loop-walk : given.InvT-loop-walk
 Inv-loop-walk g l =
     (l .walk .count ≤ length (listed (l .rule .heads)))
     × (Ready (g .S·Store .sound) (g .S·Store .live) (l .store)
-       → Advanced (asking (g .H·Host .says (l .host)) (g .O·Order .rank (l .order)) (g .O·Order .better (l .order)) []) (seeing (g .S·Store .live (l .store)) (l .roll)) (l .number) (rule-of (l .rule)) (levels-of (l .entry .walk)) (levels-of (l .walk)) (l .entry .best) (l .best))
+    → Advanced (asking (g .H·Host .says (l .host)) (g .O·Order .rank (l .order)) (g .O·Order .better (l .order)) []) (seeing (g .S·Store .live (l .store)) (l .roll)) (l .number) (rule-of (l .rule)) (levels-of (l .entry .walk)) (levels-of (l .walk)) (l .entry .best) (l .best))
 
 abbrev pub μ-loop-walk : given.MeasureT-loop-walk
 μ-loop-walk g l = weight 3 (levels-of (l .walk))
