@@ -1,6 +1,6 @@
 """Files that are refused while they are read, and their neighbours that are not.
 
-Each case is a name, a file and the printout that the description of the format
+Each case is a name, a file and the printout that docs/WEEK-FILE.md
 asks for, worked out by hand. Sizes: kind 3, rule begins 1, head 18, guard 12, body
 fact 35, fail 1, rule ends 7, goal fact 14.
 """

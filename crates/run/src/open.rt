@@ -1,4 +1,5 @@
 ghost use mathlib.Core.Path.{_≡_};
+ghost use mathlib.Core.List.{[]};
 ghost use Rattle.std.specs.Results.{Cases};
 ghost use Rattle.book.specs.Books.{book-of};
 ghost use Rattle.meaning.specs.Setup.{opening};
@@ -32,7 +33,7 @@ impl<S: Store, H: Host, O: Order> Run<S, H, O> {
     ) -> Result<Run<S, H, O>, Unopened<S, H, O>>
         ensures opened { λ r. ⌜ Cases r
             (λ run. (setup-of S·Store.rows H·Host.value H·Host.says H·Host.works O·Order.rank O·Order.better run ≡ setting (book-of book) (S·Store.rows store) (H·Host.value host) (H·Host.says host) (H·Host.works host) (O·Order.rank order) (O·Order.better order)) × (state-of S·Store.live run ≡ opening) × Standing S·Store.sound S·Store.live run)
-            (λ u. (u .book ≡ book) × (u .host ≡ host) × (u .order ≡ order) × (S·Store.rows (u .store) ≡ S·Store.rows store)) ⌝ }
+            (λ u. (u .book ≡ book) × (u .host ≡ host) × (u .order ≡ order) × (S·Store.rows (u .store) ≡ S·Store.rows store) × S·Store.sound (u .store) × (S·Store.live (u .store) ≡ [])) ⌝ }
     {
         let mut store = store;
         store.clear();
@@ -53,5 +54,23 @@ impl<S: Store, H: Host, O: Order> Run<S, H, O> {
                 order,
             }),
         }
+    }
+}
+
+impl<S: Store, H: Host + Drop, O: Order + Drop> Run<S, H, O> {
+    /// Ends the run, and gives the store back as it is.
+    pub fn into_store(self) -> S
+        ensures value { λ r. ⌜ r ≡ self .store ⌝ }
+    {
+        let Run {
+            book: _,
+            store,
+            host: _,
+            order: _,
+            roll: _,
+            next: _,
+            failed: _,
+        } = self;
+        store
     }
 }

@@ -58,6 +58,9 @@ copy v = working.Copy (Variable v)
 abbrev given : ℕ → ℤ → ℤ → ℤ → Written
 given k a b c = record { kind = k; values = a ∷ b ∷ c ∷ [] }
 
+abbrev fact : ℕ → ℕ → ℤ → ℤ → Fact
+fact i k a b = record { id = i; kind = k; values = a ∷ b ∷ pos 0 ∷ [] }
+
 abbrev fired : ℕ → ℕ → ℕ → Entry
 fired n i j = Fired (record { rule = n; ids = i ∷ j ∷ 0 ∷ 0 ∷ [] })
 
@@ -183,8 +186,10 @@ fixed = serial (None ∷ Some 1 ∷ []) (replaces (working.Copy (Constant (pos 1
 
 pub record Worked : Type 0 where
   -- the depot: machine 7 gets block 500 and machine 9 block 700, and then nothing is left
-  pub depot-roll : firings (after-steps depot-week 2 depot-facts .roll) ≡ fired 1 3 2 ∷ fired 1 4 1 ∷ []
-  pub depot-store : after-steps depot-week 2 depot-facts .facts ≡ record { id = 5; kind = 3; values = pos 7 ∷ pos 500 ∷ pos 0 ∷ [] } ∷ record { id = 6; kind = 3; values = pos 9 ∷ pos 700 ∷ pos 0 ∷ [] } ∷ []
+  pub depot-roll : after-steps depot-week 2 depot-facts .roll
+      ≡ HandedIn (fact 1 1 (pos 700) (pos 0)) ∷ HandedIn (fact 2 1 (pos 500) (pos 0)) ∷ HandedIn (fact 3 2 (pos 7) (pos 0)) ∷ HandedIn (fact 4 2 (pos 9) (pos 0))
+      ∷ fired 1 3 2 ∷ fired 1 4 1 ∷ []
+  pub depot-store : after-steps depot-week 2 depot-facts .facts ≡ fact 5 3 (pos 7) (pos 500) ∷ fact 6 3 (pos 9) (pos 700) ∷ []
   pub depot-final : step-answer depot-week (after-steps depot-week 2 depot-facts) ≡ Ok stepped.Final
   -- shortest paths, with the banded order
   pub paths-roll : firings (after-steps paths-week 5 paths-facts .roll) ≡ fired 1 1 0 ∷ fired 3 5 2 ∷ fired 3 5 3 ∷ fired 3 7 4 ∷ fired 2 8 6 ∷ []
@@ -192,7 +197,8 @@ pub record Worked : Type 0 where
   pub paths-final : step-answer paths-week (after-steps paths-week 5 paths-facts) ≡ Ok stepped.Final
   -- of two equal distances the first stays
   pub equal-roll : firings (after-steps paths-week 1 equal-distances .roll) ≡ fired 2 1 2 ∷ []
-  pub equal-live : ids-of (after-steps paths-week 1 equal-distances .facts) ≡ 1 ∷ []
+  pub equal-live : after-steps paths-week 1 equal-distances .facts ≡ fact 1 3 (pos 1) (pos 0) ∷ []
+  pub equal-final : step-answer paths-week (after-steps paths-week 1 equal-distances) ≡ Ok stepped.Final
   -- four live facts, one taken, two written: four rows are too few, and nothing is changed; five are enough
   pub four-rows : step-answer (split-rows 4) (split-facts 4) ≡ Err (refusal.NoRow (site.Rule 1))
   pub four-stay : step-after (split-rows 4) (split-facts 4) ≡ split-facts 4

@@ -13,6 +13,7 @@ returns c = record {
     paths-final = refl;
     equal-roll = refl;
     equal-live = refl;
+    equal-final = refl;
     four-rows = refl;
     four-stay = refl;
     five-rows = refl;
