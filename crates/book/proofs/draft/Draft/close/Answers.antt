@@ -5,8 +5,8 @@ use Rattle.book.specs.Held.{draft_of}
 use Rattle.book.proofs.Soundness.{ended_closed, ended_small, ended_map}
 use Rattle.book.proofs.draft.Draft.close.Goals as goal
 
-pub invariant-of-result : goal.invariant-of-result
-invariant-of-result c =
+pub invariant_of-result : goal.invariant_of-result
+invariant_of-result c =
     let rs = vec_items c.args.self.tables.rules in
     let e = c.finished.ensures.items ∙ ap (λ o. cond o (take (length rs - 1) rs) rs) c.is_open-open.ensures.value in
     let m = ended_map c.args.self.state rs _ e in
