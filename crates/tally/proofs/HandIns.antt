@@ -1,5 +1,5 @@
 -- What a hand-in does, in words, from the chain of tests that says it.
-use Rattle.std.proofs.Common.{◌≡◌, ℕ, ◌<◌, Bool, true, false, not, ltb, List, length, ℤ, Some, None, Ok, Option, Result, refl}
+use Rattle.std.proofs.Common.{◌≡◌, ℕ, ◌<◌, Bool, true, false, cond, ltb, List, length, ℤ, Some, None, Ok, Option, Result, refl}
 use Rattle.std.proofs.lemmas.Bool.{ltb-true, ltb-false}
 use Rattle.facts.specs.Positions.{unused_clear, is_zero}
 use Rattle.rules.specs.Results.{and_then, kept_or, unless}
@@ -81,9 +81,9 @@ module _ {R : Type 0} (s : Setup R) (t : State) (k : ℕ) (vs : List ℤ) where
   by_range f true e = by_arity f (ltb-true k 32 e) (arity_of s.kinds k) refl
   by_range f false e = (out_of_range f (ltb-false k 32 e), refl)
 
-  by_failed : (b : Bool) → t.failed ≡ b → AsSaid (and_then (unless (not b) refusal.Failed) (λ _. from_range))
+  by_failed : (b : Bool) → t.failed ≡ b → AsSaid (and_then (unless (cond b false true) refusal.Failed) (λ _. from_range))
   by_failed true f = (failed f, refl)
   by_failed false f = by_range f (ltb k 32) refl
 
-  pub hands_in_as_said : HandsIn s t k vs (hand_in_after s t k vs) (hand_in_answer s t k vs)
+  pub hands_in_as_said : TakesIn s t k vs (hand_in_after s t k vs) (hand_in_answer s t k vs)
   hands_in_as_said = by_failed t.failed refl

@@ -16,7 +16,8 @@ use Rattle.meaning.specs.Setup.{Setup, State, opening}
 use Rattle.meaning.specs.Words.{In, All, Different}
 use Rattle.meaning.specs.Instances.{ids_of, padded, Waits, IsDue, DueIs}
 use Rattle.meaning.specs.Enumeration.{due_of}
-use Rattle.meaning.specs.Firing.{unbound, bindings, of_rule, body_of, taken_ids, rule_at, after_firing, fire, handed, hand_in}
+use Rattle.meaning.specs.Enumeration.{unbound}
+use Rattle.meaning.specs.Firing.{bindings, of_rule, body_of, taken_ids, rule_at, after_firing, fire, handed, hand_in}
 use Rattle.meaning.specs.Calls.{Course, course, onward, firing_after, hand_in_after, step_answer, step_after, run_after}
 use Rattle.meaning.proofs.Lists.{all_at}
 use Rattle.meaning.proofs.PublishedCalls.{made, handed_in}

@@ -32,7 +32,7 @@
 --     Kept s cs t xs      the whole promise: the calls cs have led to the state t and were answered xs
 --     Performs s t c u a  what the call c does in the state t: it leaves u, answers a, and whatever was
 --                         promised of the calls before is promised with this one
-use Rattle.std.specs.Prelude.{◌≡◌, ℕ, suc, false, cond, List, [], ◌∷◌, ◌++◌, length, ℤ, Ok, Err, fold, Result}
+use Rattle.std.specs.Prelude.{◌≡◌, ◌+◌, ℕ, suc, false, cond, List, [], ◌∷◌, ◌++◌, length, ℤ, Ok, Err, fold, Result}
 use Rattle.std.specs.List.{range_with_len}
 use Rattle.facts.specs.declared.Fact.{Fact}
 use Rattle.host.specs.declared.types.Cause.{Cause}
@@ -53,7 +53,8 @@ use Rattle.meaning.specs.declared.written.Written.{Written}
 use Rattle.meaning.specs.Setup.{Setup, State, opening}
 use Rattle.meaning.specs.Words.{In, Different}
 use Rattle.meaning.specs.Instances.{ids_of, Waits, IsDue}
-use Rattle.meaning.specs.Firing.{unbound, bindings, body_of, taken_ids, taking_off, numbered_from, rule_at, fire, hand_in}
+use Rattle.meaning.specs.Enumeration.{unbound}
+use Rattle.meaning.specs.Firing.{bindings, body_of, taken_ids, taking_off, numbered_from, rule_at, fire, hand_in}
 use Rattle.meaning.specs.Calls.{TakesIn, Sees, StepsBy, Runs, Adds, look_answer}
 use Rattle.tally.specs.declared.answers.Answer.{Answer}
 use Rattle.tally.specs.declared.answers.Answer.TheVariants as answer

@@ -2,7 +2,7 @@ ghost use Rattle.std.specs.Prelude.{◌≡◌, ◌≤◌, length, drop, vec_len,
 ghost use Rattle.week.specs.Weeks.{goal_at_front, goal_of, goals_from};
 
 use crate::reader::MOST_GOALS;
-use crate::rules::is_goal;
+use crate::rule_records::is_goal;
 use crate::week::At;
 use records::fault::Fault;
 use records::kinds::{Record, RecordKind};

@@ -7,5 +7,5 @@
 
 mod goals;
 pub mod reader;
-mod rules;
+mod rule_records;
 pub mod week;

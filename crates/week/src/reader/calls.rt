@@ -5,7 +5,7 @@ ghost use Rattle.week.specs.Weeks.{reading, answer_of, first_bytes};
 
 use crate::goals::read_goals;
 use crate::reader::{MOST_GOALS, Reader};
-use crate::rules::{none_open, read_rules};
+use crate::rule_records::{none_open, read_rules};
 use crate::week::{At, Week};
 use book::draft::Draft;
 use std::alloc::{AllocError, Global};

@@ -3,17 +3,17 @@ use Rattle.firing.specs.Room.{Room, blank_written}
 use Rattle.firing.proofs.Rooms.{never_full, never_last, write_room, write_more, write_all}
 use Rattle.firing.proofs.write.write_body.Goals as goal
 
-pub returns-in-default : goal.returns-in-default
-returns-in-default g c = record {
-  sound = λ s. c.in-default.ensures.sound (c.loop-i.invariant.0 s);
-  live = λ s r. absurd (never_full _ _ _ _ _ _ c.loop-i-test.true (c.loop-i.invariant.1 s r) _ (c.in-default.ensures.live (c.loop-i.invariant.0 s)));
-  rows = c.in-default.ensures.rows ∙ c.loop-i.invariant.3;
+pub returns-in_default : goal.returns-in_default
+returns-in_default g c = record {
+  sound = λ s. c.in_default.ensures.sound (c.loop-i.invariant.0 s);
+  live = λ s r. absurd (never_full _ _ _ _ _ _ c.loop-i-test.true (c.loop-i.invariant.1 s r) _ (c.in_default.ensures.live (c.loop-i.invariant.0 s)));
+  rows = c.in_default.ensures.rows ∙ c.loop-i.invariant.3;
 }
 
-pub returns-in-default-id_after : goal.returns-in-default-id_after
-returns-in-default-id_after g c = record {
+pub returns-in_default-id_after : goal.returns-in_default-id_after
+returns-in_default-id_after g c = record {
   sound = λ s. c.in-Ok.ensures.sound (c.loop-i.invariant.0 s);
-  live = λ s r. absurd (never_last _ _ _ _ _ blank_written c.loop-i-test.true (c.loop-i.invariant.1 s r) c.in-default-id_after.ensures.value);
+  live = λ s r. absurd (never_last _ _ _ _ _ blank_written c.loop-i-test.true (c.loop-i.invariant.1 s r) c.in_default-id_after.ensures.value);
   rows = c.in-Ok.ensures.rows ∙ c.loop-i.invariant.3;
 }
 

@@ -10,13 +10,11 @@ invariant_of-result c =
     let rs = vec_items c.args.self.tables.rules in
     let e = c.finished.ensures.items ∙ ap (λ o. cond o (take (length rs - 1) rs) rs) c.is_open-open.ensures.value in
     let m = ended_map c.args.self.state rs _ e in
-    let all_rules = (draft_of c.args.self).tables.rules in (
-      omega arith,
-      (
-        ap (all closed) m ∙ ended_closed c.args.self.state all_rules c.args.self.sound,
-        (ap (all small) m ∙ ended_small c.args.self.state all_rules c.args.self.sound, tt),
-      ),
-    )
+    let all_rules = (draft_of c.args.self).tables.rules in record {
+      few = omega arith;
+      closed = ap (all closed) m ∙ ended_closed c.args.self.state all_rules c.args.self.sound;
+      small = ap (all small) m ∙ ended_small c.args.self.state all_rules c.args.self.sound;
+    }
 
 pub returns : goal.returns
 returns c =

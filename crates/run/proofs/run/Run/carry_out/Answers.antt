@@ -30,14 +30,14 @@ fit g r = fit_of g.S.Store g.H.Host g.O.Order r (lawful g r)
 orderly : (g : given.Over) (r : The_run g) → Standing g.S.Store.sound g.S.Store.live r → Orderly (state g r)
 orderly g r b = orderly_of g.S.Store g.H.Host g.O.Order r g.met.S.Store.rising b
 
-pub returns-in-err-held : goal.returns-in-err-held
-returns-in-err-held g c = record {
+pub returns-in_err-held : goal.returns-in_err-held
+returns-in_err-held g c = record {
   same = refl;
   does = λ h.
       let r = c.args.self.now in
       let p = err_from_is_err_and c.from_residual.result c.from_residual.ensures.1 in
-      let result_is : c.from_residual.result ≡ Err c.in-err-held.field-0.0 = p.1 ∙ ap Err p.2 in
-      let both = look_err (setup g r) (state g r) c.in-err-held.field-0.0 (sym c.in-err-held.was ∙ h) in
+      let result_is : c.from_residual.result ≡ Err c.in_err-held.field-0.0 = p.1 ∙ ap Err p.2 in
+      let both = look_err (setup g r) (state g r) c.in_err-held.field-0.0 (sym c.in_err-held.was ∙ h) in
       does g.S.Store g.H.Host g.O.Order r call.Step _ (answer.Step c.from_residual.result) (lawful g r) g.met.S.Store.rising
       refl (λ b. record { kept = b.kept; below = b.below }) (λ b. both.0) (λ b. ap answer.Step (result_is ∙ both.1));
 }
@@ -47,7 +47,7 @@ returns-in-Final g c = record {
   same = refl;
   does = λ h.
       let r = c.args.self.now in
-      let both = look_final (setup g r) (state g r) (ap Ok (sym c.in-Final.is) ∙ sym c.in-ok-held.was ∙ h) in
+      let both = look_final (setup g r) (state g r) (ap Ok (sym c.in-Final.is) ∙ sym c.in_ok-held.was ∙ h) in
       does g.S.Store g.H.Host g.O.Order r call.Step _ (answer.Step (Ok stepped.Final)) (lawful g r) g.met.S.Store.rising
       refl (λ b. record { kept = b.kept; below = b.below }) (λ b. both.0) (λ b. ap answer.Step both.1);
 }
@@ -57,7 +57,7 @@ returns-in-Due g c = record {
   same = c.fire.ensures.same;
   does = λ h.
       let r = c.args.self.now in
-      let held = look_due (setup g r) (state g r) c.in-Due.rule c.in-Due.ids c.in-Due.refusal (ap Ok (sym c.in-Due.is) ∙ sym c.in-ok-held.was ∙ h) in
+      let held = look_due (setup g r) (state g r) c.in-Due.rule c.in-Due.ids c.in-Due.refusal (ap Ok (sym c.in-Due.is) ∙ sym c.in_ok-held.was ∙ h) in
       let fireable = λ (b : Standing g.S.Store.sound g.S.Store.live r).
       due_fireable (setup g r) (state g r) (fit g r) (orderly g r b) held.due held.found c.in-Due.rule c.in-Due.ids held.rule held.ids in
       let stepped = λ (b : Standing g.S.Store.sound g.S.Store.live r).

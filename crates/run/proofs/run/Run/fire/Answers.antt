@@ -24,30 +24,30 @@ setup g r = setup_of g.S.Store g.H.Host g.O.Order r
 abbrev state : (g : given.Over) → The_run g → State
 state g r = state_of g.S.Store r
 
-pub returns-in-default : goal.returns-in-default
-returns-in-default g c =
+pub returns-in_default : goal.returns-in_default
+returns-in_default g c =
     let long : length c.rules.result.now ≡ length (book_of c.args.self.now.book).rules =
     sym (length-map c.rules.result.now rule_of) ∙ ap length c.rules.ensures.value in
     record {
       same = refl;
       standing = λ st ok. record { kept = st.kept; below = st.below };
-      fires = λ st ok. absurd (c.in-default.ensures.value ok.from_one (omega (arith, ok.in_book, long)));
+      fires = λ st ok. absurd (c.in_default.ensures.value ok.from_one (omega (arith, ok.in_book, long)));
     }
 
-pub returns-in-err-body : goal.returns-in-err-body
-returns-in-err-body g c =
+pub returns-in_err-body : goal.returns-in_err-body
+returns-in_err-body g c =
     let rule_is : rule_of c.in-Some.rule.now ≡ rule_at (book_of c.args.self.now.book).rules c.args.number =
     c.in-Some.ensures.value ∙ ap (λ rs. rule_at rs c.args.number) c.rules.ensures.value in
     let p = err_from_is_err_and c.from_residual.result c.from_residual.ensures.1 in
-    let result_is : c.from_residual.result ≡ Err c.in-err-body.field-0.0 = p.1 ∙ ap Err p.2 in
+    let result_is : c.from_residual.result ≡ Err c.in_err-body.field-0.0 = p.1 ∙ ap Err p.2 in
     record {
       same = refl;
       standing = λ st ok. record { kept = st.kept; below = st.below };
       fires = λ st ok.
           subst (λ r. FiresTo (setup g c.args.self.now) (state g c.args.self.now) c.args.number c.args.ids (state g c.args.self.now) r) (sym result_is)
-          (firing_refused (setup g c.args.self.now) (state g c.args.self.now) c.args.number c.args.ids c.in-err-body.field-0.0
-          (as_cleared (setup g c.args.self.now) (state g c.args.self.now) c.args.number c.args.ids (rule_of c.in-Some.rule.now) c.len-rolled.result (Err c.in-err-body.field-0.0) rule_is
-          (c.len-rolled.ensures ∙ c.args.self.now.roll.ok.0) (c.in-err-body.ensures.value st.kept)));
+          (firing_refused (setup g c.args.self.now) (state g c.args.self.now) c.args.number c.args.ids c.in_err-body.field-0.0
+          (as_cleared (setup g c.args.self.now) (state g c.args.self.now) c.args.number c.args.ids (rule_of c.in-Some.rule.now) c.len-rolled.result (Err c.in_err-body.field-0.0) rule_is
+          (c.len-rolled.ensures ∙ c.args.self.now.roll.ok.0) (c.in_err-body.ensures.value st.kept)));
     }
 
 module _ (g : given.Over) (c : goal.After-answer g) (st : Standing g.S.Store.sound g.S.Store.live c.args.self.now)
@@ -59,7 +59,7 @@ module _ (g : given.Over) (c : goal.After-answer g) (st : Standing g.S.Store.sou
   t = state g c.args.self.now
 
   abbrev body : List Written
-  body = listed c.in-ok-body.body
+  body = listed c.in_ok-body.body
 
   rule_is : rule_of c.in-Some.rule.now ≡ rule_at s.rules c.args.number
   rule_is = c.in-Some.ensures.value ∙ ap (λ rs. rule_at rs c.args.number) c.rules.ensures.value
@@ -67,13 +67,13 @@ module _ (g : given.Over) (c : goal.After-answer g) (st : Standing g.S.Store.sou
   cleared : Ok body ≡ clearing s.works t.facts (rule_at s.rules c.args.number) c.args.number c.args.ids s.rows (length t.roll)
   cleared =
       as_cleared s t c.args.number c.args.ids (rule_of c.in-Some.rule.now) c.len-rolled.result (Ok body) rule_is
-      (c.len-rolled.ensures ∙ c.args.self.now.roll.ok.0) (c.in-ok-body.ensures.value st.kept)
+      (c.len-rolled.ensures ∙ c.args.self.now.roll.ok.0) (c.in_ok-body.ensures.value st.kept)
 
   within : length t.facts ≤ s.rows
   within = g.met.S.Store.within _ st.kept
 
   few : length body ≤ 4
-  few = omega (arith, length-take c.in-ok-body.body.len c.in-ok-body.body.items, c.in-ok-body.body.within)
+  few = omega (arith, length-take c.in_ok-body.body.len c.in_ok-body.body.items, c.in_ok-body.body.within)
 
   small : t.next ≤ 4097
   small = omega (arith, c.args.self.now.counted, c.args.self.now.few)

@@ -35,11 +35,11 @@ fit g r = fit_of g.S.Store g.H.Host g.O.Order r (lawful g r)
 orderly : (g : given.Over) (r : The_run g) → Standing g.S.Store.sound g.S.Store.live r → Orderly (state g r)
 orderly g r b = orderly_of g.S.Store g.H.Host g.O.Order r g.met.S.Store.rising b
 
-pub returns-in-err-rule : goal.returns-in-err-rule
-returns-in-err-rule g c =
+pub returns-in_err-rule : goal.returns-in_err-rule
+returns-in_err-rule g c =
     let long : length c.rules.result.now ≡ length (book_of c.args.self.now.book).rules =
     sym (length-map c.rules.result.now rule_of) ∙ ap length c.rules.ensures.value in
-    record { value = λ b ok. absurd (c.in-err-rule.ensures.value ok.from_one (omega (arith, ok.in_book, long))) }
+    record { value = λ b ok. absurd (c.in_err-rule.ensures.value ok.from_one (omega (arith, ok.in_book, long))) }
 
 listed_err : (x : Result (Few Written 4) Refusal) → result_err x ≡ result_err (listed_or x)
 listed_err (Ok ws) = refl
@@ -49,10 +49,10 @@ pub returns : goal.returns
 returns g c = record {
   value = λ b ok.
       let r = c.args.self.now in
-      let rule_is : rule_of c.in-ok-rule.rule.now ≡ rule_at (book_of r.book).rules c.args.number =
-      c.in-ok-rule.ensures.value ∙ ap (λ rs. rule_at rs c.args.number) c.rules.ensures.value in
+      let rule_is : rule_of c.in_ok-rule.rule.now ≡ rule_at (book_of r.book).rules c.args.number =
+      c.in_ok-rule.ensures.value ∙ ap (λ rs. rule_at rs c.args.number) c.rules.ensures.value in
       c.err.ensures.value ∙ listed_err c.clear_firing.result
       ∙ refusal_is (setup g r) (state g r) c.args.number c.args.ids (listed_or c.clear_firing.result)
-      (as_cleared (setup g r) (state g r) c.args.number c.args.ids (rule_of c.in-ok-rule.rule.now) c.len-rolled.result (listed_or c.clear_firing.result) rule_is
+      (as_cleared (setup g r) (state g r) c.args.number c.args.ids (rule_of c.in_ok-rule.rule.now) c.len-rolled.result (listed_or c.clear_firing.result) rule_is
       (c.len-rolled.ensures ∙ r.roll.ok.0) (c.clear_firing.ensures.value b.kept));
 }

@@ -2,7 +2,7 @@ use Rattle.std.proofs.Common.{ℕ, ◌+◌, sym, subst}
 use Rattle.std.proofs.lemmas.List.{take_rest}
 use Rattle.book.specs.Held.{draft_of}
 use Rattle.week.proofs.Places.{Ahead, ahead_start, ahead_end, ahead_fault, ahead_more}
-use Rattle.week.proofs.rules.read_rules.Goals as goal
+use Rattle.week.proofs.rule_records.read_rules.Goals as goal
 
 pub loop-draft-init : goal.loop-draft-init
 loop-draft-init c = ahead_start (draft_of c.args.draft.now) c.args.file.now
