@@ -1,5 +1,5 @@
 -- A hand-in that is refused changes nothing; one that is admitted is accepted.
-use Rattle.std.proofs.Common.{◌≡◌, ℕ, ◌+◌, ◌<◌, ◌≤◌, Bool, cond, not, ltb, List, [], ◌∷◌, ◌++◌, length, ℤ, Some, None, Ok, Err, Option, Result, sym, refl, ap, ◌∙◌, subst, add-one, arith}
+use Rattle.std.proofs.Common.{◌≡◌, ℕ, ◌+◌, ◌<◌, ◌≤◌, Bool, true, false, cond, ltb, List, [], ◌∷◌, ◌++◌, length, ℤ, Some, None, Ok, Err, Option, Result, sym, refl, ap, ◌∙◌, subst, add-one, arith}
 use Rattle.std.proofs.lemmas.Bool.{lt-ltb}
 use Rattle.facts.specs.Positions.{unused_clear, is_zero}
 use Rattle.facts.specs.declared.Fact.{Fact}
@@ -58,9 +58,9 @@ module _ {R : Type 0} (s : Setup R) (t : State) (k : ℕ) (vs : List ℤ) where
   pub hand_in_accepted : Ok tt ≡ told (hand_in s t k vs) → hand_in s t k vs ≡ Ok (after_hand_in s t k vs)
   hand_in_accepted h =
       let rest = and_then (unless (ltb k 32) refusal.OutOfRange) (λ _. declared (arity_of s.kinds k)) in
-      let h₁ = passed (not t.failed) refusal.Failed rest h in
+      let h₁ = passed (cond t.failed false true) refusal.Failed rest h in
       let h₂ = passed (ltb k 32) refusal.OutOfRange (declared (arity_of s.kinds k)) h₁ in
-      through (not t.failed) refusal.Failed rest h
+      through (cond t.failed false true) refusal.Failed rest h
       ∙ through (ltb k 32) refusal.OutOfRange (declared (arity_of s.kinds k)) h₁
       ∙ from_declared (arity_of s.kinds k) h₂
 

@@ -36,20 +36,20 @@ module _ {S H O K : Type 0} (st : StoreMeaning S) (ho : HostMeaning H) (or : Ord
   pub same_rows : (b : Book) (s s' : S) (h : H) (o : O) → st.rows s' ≡ st.rows s → setting_on st ho or b s' h o ≡ setting_on st ho or b s h o
   same_rows b s s' h o e = ap (with_rows b h o) e
 
-  pub fit_of : (r : Run S H O K) → Lawful (or.better r.order) → Fit (setup st ho or r)
+  pub fit_of : (r : Run S H O K st ho or) → Lawful (or.better r.order) → Fit (setup st ho or r)
   fit_of r l = record { ranks = l; bound = r.book.closed; sizes = r.book.small }
 
-  pub orderly_of : (r : Run S H O K) → ((s : S) → st.sound s → Rising (st.live s)) → Standing st.sound st.live r → Orderly (state st r)
+  pub orderly_of : (r : Run S H O K st ho or) → ((s : S) → st.sound s → Rising (st.live s)) → Standing st.sound st.live r → Orderly (state st r)
   orderly_of r rising a = record { rising = rising r.store a.kept; below = a.below }
 
   -- what a search may rely on
-  pub ready_of : (r : Run S H O K) → Standing st.sound st.live r → Ready st.sound st.live r.store
+  pub ready_of : (r : Run S H O K st ho or) → Standing st.sound st.live r → Ready st.sound st.live r.store
   ready_of r a =
       let small : r.next ≤ 4294967295 = omega (arith, r.counted, r.few) in
       record { kept = a.kept; spare = above_higher (st.live r.store) r.next 4294967295 small a.below }
 
   -- a call carries on what was promised of the calls before
-  carried : (r : Run S H O K) (c : Call) (q : Run S H O K) (a : Answer) → Lawful (or.better r.order)
+  carried : (r : Run S H O K st ho or) (c : Call) (q : Run S H O K st ho or) (a : Answer) → Lawful (or.better r.order)
       → setup st ho or q ≡ setup st ho or r → (Standing st.sound st.live r → Standing st.sound st.live q)
       → (Standing st.sound st.live r → Performs (setup st ho or r) (state st r) c (state st q) a)
       → (b : Book) (s : S) (h : H) (o : O) (cs : List Call) (xs : List Answer)
@@ -63,7 +63,7 @@ module _ {S H O K : Type 0} (st : StoreMeaning S) (ho : HostMeaning H) (or : Ord
         derived = subst (Derivation (setting_on st ho or b s h o)) (sym kept.state) (derivation_always (subst Fit p.same (fit_of r l)) (cs ++ c ∷ []));
       }
 
-  pub does : (r : Run S H O K) (c : Call) (q : Run S H O K) (a : Answer)
+  pub does : (r : Run S H O K st ho or) (c : Call) (q : Run S H O K st ho or) (a : Answer)
       → Lawful (or.better r.order) → ((s : S) → st.sound s → Rising (st.live s))
       → setup st ho or q ≡ setup st ho or r → (Standing st.sound st.live r → Standing st.sound st.live q)
       → (Standing st.sound st.live r → state st q ≡ after_call (setup st ho or r) (state st r) c)
@@ -72,7 +72,7 @@ module _ {S H O K : Type 0} (st : StoreMeaning S) (ho : HostMeaning H) (or : Ord
       let performed = λ (b : Standing st.sound st.live r). performs (fit_of r l) (orderly_of r rising b) (after b) (value b) in
       record { same = same; standing = standing; performs = performed; carries = carried r c q a l same standing performed }
 
-  pub opens : (b : Book) (s : S) (h : H) (o : O) (r : Run S H O K) → Lawful (or.better r.order)
+  pub opens : (b : Book) (s : S) (h : H) (o : O) (r : Run S H O K st ho or) → Lawful (or.better r.order)
       → setup st ho or r ≡ setting_on st ho or b s h o → state st r ≡ opening → Standing st.sound st.live r → Stands st ho or b s h o [] r []
   opens b s h o r l made empty standing =
       let fits = subst Fit made (fit_of r l) in
@@ -84,7 +84,7 @@ module _ {S H O K : Type 0} (st : StoreMeaning S) (ho : HostMeaning H) (or : Ord
       }
 
   -- what is shown of a run that stands is shown
-  pub does_standing : (r : Run S H O K) (c : Call) (q : Run S H O K) (a : Answer) → setup st ho or q ≡ setup st ho or r
+  pub does_standing : (r : Run S H O K st ho or) (c : Call) (q : Run S H O K st ho or) (a : Answer) → setup st ho or q ≡ setup st ho or r
       → (Standing st.sound st.live r → Does st ho or r c q a) → Does st ho or r c q a
   does_standing r c q a same d = record {
     same = same;

@@ -45,15 +45,15 @@ setting b rows value says works rank better = record {
   better = better;
 }
 
-module _ {S H O K : Type 0} where
-  abbrev pub setup_of : (S → ℕ) → (H → ℤ → Bool) → (H → Comparator → ℤ → ℤ → Bool) → (H → Working ℤ → Result ℤ Cause) → (O → ℕ → ℤ → K) → (O → K → K → Bool) → Run S H O K → Setup K
+module _ {S H O K : Type 0} {st : StoreMeaning S} {ho : HostMeaning H} {or : OrderMeaning O K} where
+  abbrev pub setup_of : (S → ℕ) → (H → ℤ → Bool) → (H → Comparator → ℤ → ℤ → Bool) → (H → Working ℤ → Result ℤ Cause) → (O → ℕ → ℤ → K) → (O → K → K → Bool) → Run S H O K st ho or → Setup K
   setup_of rows value says works rank better r =
       setting (book_of r.book) (rows r.store) (value r.host) (says r.host) (works r.host) (rank r.order) (better r.order)
 
-  abbrev pub state_of : (S → List Fact) → Run S H O K → State
+  abbrev pub state_of : (S → List Fact) → Run S H O K st ho or → State
   state_of live r = record { facts = live r.store; roll = vec_items r.roll; next = r.next; failed = r.failed }
 
-  pub record Standing (sound : S → Type 0) (live : S → List Fact) (r : Run S H O K) : Type 0 where
+  pub record Standing (sound : S → Type 0) (live : S → List Fact) (r : Run S H O K st ho or) : Type 0 where
     pub kept : sound r.store
     pub below : Above r.next (live r.store)
 
@@ -61,26 +61,26 @@ module _ {S H O K : Type 0} (st : StoreMeaning S) (ho : HostMeaning H) (or : Ord
   abbrev pub setting_on : Book → S → H → O → Setup K
   setting_on b s h o = setting b (st.rows s) (ho.value h) (ho.says h) (ho.works h) (or.rank o) (or.better o)
 
-  abbrev pub setup : Run S H O K → Setup K
+  abbrev pub setup : Run S H O K st ho or → Setup K
   setup r = setup_of st.rows ho.value ho.says ho.works or.rank or.better r
 
-module _ {S H O K : Type 0} (st : StoreMeaning S) where
-  abbrev pub state : Run S H O K → State
+module _ {S H O K : Type 0} (st : StoreMeaning S) {ho : HostMeaning H} {or : OrderMeaning O K} where
+  abbrev pub state : Run S H O K st ho or → State
   state r = state_of st.live r
 
 module _ {S H O K : Type 0} (st : StoreMeaning S) (ho : HostMeaning H) (or : OrderMeaning O K) where
-  pub record Stands (b : Book) (s : S) (h : H) (o : O) (cs : List Call) (r : Run S H O K) (xs : List Answer) : Type 0 where
+  pub record Stands (b : Book) (s : S) (h : H) (o : O) (cs : List Call) (r : Run S H O K st ho or) (xs : List Answer) : Type 0 where
     pub same : setup st ho or r ≡ setting_on st ho or b s h o
     pub standing : Standing st.sound st.live r
     pub kept : Kept (setting_on st ho or b s h o) cs (state st r) xs
     pub derived : Derivation (setting_on st ho or b s h o) (state st r)
 
-  pub record Does (r : Run S H O K) (c : Call) (q : Run S H O K) (a : Answer) : Type 0 where
+  pub record Does (r : Run S H O K st ho or) (c : Call) (q : Run S H O K st ho or) (a : Answer) : Type 0 where
     pub same : setup st ho or q ≡ setup st ho or r
     pub standing : Standing st.sound st.live r → Standing st.sound st.live q
     pub performs : Standing st.sound st.live r → Performs (setup st ho or r) (state st r) c (state st q) a
     pub carries : (b : Book) (s : S) (h : H) (o : O) (cs : List Call) (xs : List Answer)
         → Stands b s h o cs r xs → Stands b s h o (cs ++ c ∷ []) q (xs ++ a ∷ [])
 
-  abbrev pub Holds : Chosen S H O K → Type 0
+  abbrev pub Holds : Chosen S H O K st ho or → Type 0
   Holds c = c.held ≡ look_answer (setup st ho or c.run) (state st c.run)

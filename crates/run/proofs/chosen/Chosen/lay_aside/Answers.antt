@@ -10,7 +10,7 @@ use Rattle.run.proofs.chosen.Chosen.lay_aside.Given as given
 use Rattle.run.proofs.chosen.Chosen.lay_aside.Goals as goal
 
 abbrev The_run : given.Over → Type 0
-The_run g = Run g.row.S.Denot g.row.H.Denot g.row.O.Denot g.row.O-Rank.Denot
+The_run g = Run g.row.S.Denot g.row.H.Denot g.row.O.Denot g.row.O-Rank.Denot g.S.Store g.H.Host g.O.Order
 
 abbrev setup : (g : given.Over) → The_run g → Setup g.row.O-Rank.Denot
 setup g r = setup_of g.S.Store g.H.Host g.O.Order r

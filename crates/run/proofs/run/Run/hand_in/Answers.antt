@@ -11,7 +11,7 @@ use Rattle.run.proofs.run.Run.hand_in.Given as given
 use Rattle.run.proofs.run.Run.hand_in.Goals as goal
 
 abbrev The_run : given.Over → Type 0
-The_run g = Run g.row.S.Denot g.row.H.Denot g.row.O.Denot g.row.O-Rank.Denot
+The_run g = Run g.row.S.Denot g.row.H.Denot g.row.O.Denot g.row.O-Rank.Denot g.S.Store g.H.Host g.O.Order
 
 abbrev setup : (g : given.Over) → The_run g → Setup g.row.O-Rank.Denot
 setup g r = setup_of g.S.Store g.H.Host g.O.Order r
@@ -27,6 +27,8 @@ returns-in-Err g c =
     let r = c.args.self.now in
     let refused = λ (b : Standing g.S.Store.sound g.S.Store.live r). hand_in_refused (setup g r) (state g r) c.args.kind c.args.values c.in-Err.refusal (c.in-Err.ensures.value b) in
     record {
+      kept = refl;
+      standing = λ b. record { kept = b.kept; below = b.below };
       does =
           does g.S.Store g.H.Host g.O.Order r (call.HandIn c.args.kind c.args.values) _ (answer.HandIn (Err c.in-Err.refusal)) (lawful g r) g.met.S.Store.rising
           refl (λ b. record { kept = b.kept; below = b.below }) (λ b. (refused b).0) (λ b. ap answer.HandIn (refused b).1);
@@ -39,14 +41,14 @@ returns g c =
     let done = λ (b : Standing g.S.Store.sound g.S.Store.live r).
     hand_in_done (setup g r) (state g r) c.args.kind c.args.values (c.in_default.ensures.value b) (c.in_default.ensures.row b) b.below (is_ok c.add.result) (g.S.Store.live c.add.new.self) (c.add.ensures.live b.kept)
     (vec_items c.push_reserved.new.self) _ c.push_reserved.ensures.items refl in
+    let same = same_rows g.S.Store g.H.Host g.O.Order (book_of r.book) r.store c.add.new.self r.host r.order c.add.ensures.rows in
+    let below = λ (b : Standing g.S.Store.sound g.S.Store.live r). hand_in_below (setup g r) (state g r) c.args.kind c.args.values (c.in_default.ensures.value b) (c.in_default.ensures.row b) b.below (is_ok c.add.result) (g.S.Store.live c.add.new.self) (c.add.ensures.live b.kept) _ refl in
     record {
+      kept = same;
+      standing = λ b. record { kept = c.add.ensures.sound b.kept; below = below b };
       does =
           does g.S.Store g.H.Host g.O.Order r (call.HandIn c.args.kind c.args.values) _ (answer.HandIn (Ok r.next)) (lawful g r) g.met.S.Store.rising
-          (same_rows g.S.Store g.H.Host g.O.Order (book_of r.book) r.store c.add.new.self r.host r.order c.add.ensures.rows)
-          (λ b. record {
-            kept = c.add.ensures.sound b.kept;
-            below = hand_in_below (setup g r) (state g r) c.args.kind c.args.values (c.in_default.ensures.value b) (c.in_default.ensures.row b) b.below (is_ok c.add.result) (g.S.Store.live c.add.new.self) (c.add.ensures.live b.kept) _ refl;
-          })
+          same (λ b. record { kept = c.add.ensures.sound b.kept; below = below b })
           (λ b. (done b).0) (λ b. ap answer.HandIn (done b).1);
       hands_in = λ b. hands_in_from (setup g r) (state g r) c.args.kind c.args.values _ (Ok r.next) (done b).0 (done b).1;
     }

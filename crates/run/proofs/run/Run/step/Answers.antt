@@ -13,7 +13,7 @@ use Rattle.run.proofs.run.Run.step.Given as given
 use Rattle.run.proofs.run.Run.step.Goals as goal
 
 abbrev The_run : given.Over → Type 0
-The_run g = Run g.row.S.Denot g.row.H.Denot g.row.O.Denot g.row.O-Rank.Denot
+The_run g = Run g.row.S.Denot g.row.H.Denot g.row.O.Denot g.row.O-Rank.Denot g.S.Store g.H.Host g.O.Order
 
 abbrev setup : (g : given.Over) → The_run g → Setup g.row.O-Rank.Denot
 setup g r = setup_of g.S.Store g.H.Host g.O.Order r
@@ -36,6 +36,8 @@ returns-then-self g c =
     let after = over_after (setup g r) (state g r) c.if-self.true in
     let value = over_answer (setup g r) (state g r) c.if-self.true in
     record {
+      kept = refl;
+      standing = λ b. record { kept = b.kept; below = b.below };
       does =
           does g.S.Store g.H.Host g.O.Order r call.Step _ (answer.Step (Err refusal.Failed)) (lawful g r) g.met.S.Store.rising
           refl (λ b. record { kept = b.kept; below = b.below }) (λ b. after) (λ b. ap answer.Step value);
@@ -48,6 +50,8 @@ returns-in-None g c =
     let after = λ (b : Standing g.S.Store.sound g.S.Store.live r). found_after (setup g r) (state g r) c.if-self.false None (c.in-None.ensures.value b) in
     let value = λ (b : Standing g.S.Store.sound g.S.Store.live r). found_answer (setup g r) (state g r) c.if-self.false None (c.in-None.ensures.value b) in
     record {
+      kept = refl;
+      standing = λ b. record { kept = b.kept; below = b.below };
       does =
           does g.S.Store g.H.Host g.O.Order r call.Step _ (answer.Step (Ok stepped.Final)) (lawful g r) g.met.S.Store.rising
           refl (λ b. record { kept = b.kept; below = b.below }) after (λ b. ap answer.Step (value b));
@@ -63,6 +67,8 @@ returns-in-Some g c =
     let stepped = λ (b : Standing g.S.Store.sound g.S.Store.live r).
     fires_step (setup g r) (state g r) c.if-self.false d (same b) d.rule d.ids refl refl (state g c.fire.new.self) c.fire.result (c.fire.ensures.fires b (fireable b)) in
     record {
+      kept = c.fire.ensures.same;
+      standing = λ b. c.fire.ensures.standing b (fireable b);
       does =
           does g.S.Store g.H.Host g.O.Order r call.Step c.fire.new.self (answer.Step c.fire.result) (lawful g r) g.met.S.Store.rising
           c.fire.ensures.same (λ b. c.fire.ensures.standing b (fireable b)) (λ b. (stepped b).0) (λ b. ap answer.Step (stepped b).1);
