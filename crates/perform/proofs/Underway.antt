@@ -11,10 +11,10 @@ use Rattle.run.specs.Runs.{Stands, Does}
 
 module _ {S H O K : Type 0} (st : StoreMeaning S) (ho : HostMeaning H) (or : OrderMeaning O K) (b : Book) (s : S) (h : H) (o : O) where
   -- with the calls and the answers as the code has them
-  pub stands_as : (r : Run S H O K) (cs ds : List Call) (xs ys : List Answer) → ds ≡ cs → ys ≡ xs → Stands st ho or b s h o cs r xs → Stands st ho or b s h o ds r ys
+  pub stands_as : (r : Run S H O K st ho or) (cs ds : List Call) (xs ys : List Answer) → ds ≡ cs → ys ≡ xs → Stands st ho or b s h o cs r xs → Stands st ho or b s h o ds r ys
   stands_as r cs ds xs ys e f u = subst (λ es. Stands st ho or b s h o es r ys) (sym e) (subst (Stands st ho or b s h o cs r) (sym f) u)
 
   -- one call more
-  pub stands_more : (r : Run S H O K) (cs ds : List Call) (xs ys : List Answer) (c : Call) (q : Run S H O K) (a : Answer) → ds ≡ cs ++ c ∷ [] → ys ≡ xs ++ a ∷ []
+  pub stands_more : (r : Run S H O K st ho or) (cs ds : List Call) (xs ys : List Answer) (c : Call) (q : Run S H O K st ho or) (a : Answer) → ds ≡ cs ++ c ∷ [] → ys ≡ xs ++ a ∷ []
       → Stands st ho or b s h o cs r xs → Does st ho or r c q a → Stands st ho or b s h o ds q ys
   stands_more r cs ds xs ys c q a e f u d = stands_as q (cs ++ c ∷ []) ds (xs ++ a ∷ []) ys e f (d.carries b s h o cs xs u)

@@ -25,8 +25,8 @@ returns g c =
       | then-loop-i-test+then-i-places w ↦ let e : c.loop-i.i ≡ c.args.room.places = omega (arith, w.if-i-places, inv.3) in ap (λ n. take n c.args.calls.now) e
     ] in
     let opened =
-    stands_as g.S.Store g.H.Host g.O.Order (book_of c.args.book) c.args.store c.args.host c.args.order c.open-run.result [] (take 0 c.args.calls.now) [] (vec_items c.args.room.answers)
-    refl c.args.room.empty c.open-run.ensures.stands in
+    stands_as g.S.Store g.H.Host g.O.Order (book_of c.args.book) c.args.store c.args.host c.args.order c.start-run.result [] (take 0 c.args.calls.now) [] (vec_items c.args.room.answers)
+    refl c.args.room.empty c.start-run.ensures.stands in
     let stands =
     stands_as g.S.Store g.H.Host g.O.Order (book_of c.args.book) c.args.store c.args.host c.args.order c.loop-i.run (take c.loop-i.i c.args.calls.now) (take c.args.room.places c.args.calls.now)
     (vec_items c.loop-i.answers) (vec_items c.loop-i.answers) (sym all_made) refl
