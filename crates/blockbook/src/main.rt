@@ -2,6 +2,7 @@
 //!
 //! A flat store of 1,024 rows, the host of counts and the plain order. It reads no more than the
 //! first 34,691 bytes, which decide; the exit status is 0 whenever a whole answer was printed.
+#![tactic(auto)]
 
 use anyhow::anyhow;
 use facts::Fact;

@@ -5,6 +5,7 @@
 //! is open until it ends. A book means its kinds and rules; by its type no rule of it is without
 //! a head, and none has a variable that no head of the rule binds. Below stand the rules and the
 //! records of the week file; above, the reader of a whole file and the run.
+#![tactic(auto)]
 
 mod binds;
 pub mod book;

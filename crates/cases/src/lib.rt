@@ -1,6 +1,7 @@
 //! The worked cases, run through the library: runs over a flat store, with either host and order.
 //!
 //! Expected values are worked out by hand from the rules of the engine. Nothing stands above.
+#![tactic(auto)]
 
 pub mod books;
 #[cfg(test)]

@@ -2,6 +2,7 @@
 //!
 //! A fact is an id, a kind and three values; which positions are in use is a matter of its
 //! kind's arity, and the others hold 0. Nothing stands below this crate; every other one cites it.
+#![tactic(auto)]
 
 pub mod positions;
 

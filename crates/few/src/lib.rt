@@ -3,6 +3,7 @@
 //!
 //! Not for long or growing lists: that is `Vec`. Nothing stands below; rules hold their heads,
 //! guards and body facts in it.
+#![tactic(auto)]
 
 ghost use Rattle.std.specs.Prelude.{◌≡◌, ◌≤◌, length};
 

@@ -4,6 +4,7 @@
 //! facts that are written. Each function is one word of the definitions (`Firing`, in the crate of
 //! what a run means). Below stand matching, stores and hosts; above, the run, which decides when a
 //! firing comes and when it is refused.
+#![tactic(auto)]
 
 pub mod bind;
 pub mod body;

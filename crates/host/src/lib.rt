@@ -5,6 +5,7 @@
 //! arithmetic, serials the numbers that come round after 999,999. Nothing stands below this
 //! crate; rules are made of its comparators and workings, and the run asks a host through `Host`
 //! alone.
+#![tactic(auto)]
 
 pub mod counts;
 pub mod host;

@@ -1,5 +1,5 @@
 -- Lists as long as an array, item by item.
-use Rattle.std.proofs.Common.{◌≡◌, ℕ, true, false, ◌&&◌, eqb, List, [], ◌∷◌, length, get_or, ℤ, pos, Some, None, Option, sym, refl, ap, ◌∙◌, arith}
+use Rattle.std.proofs.Common.{◌≡◌, ℕ, ◌&&◌, eqb, List, [], ◌∷◌, length, get_or, ℤ, pos, Some, None, Option, sym, refl, ap, ◌∙◌, arith}
 use Rattle.records.specs.Bytes.{and_then}
 use Rattle.records.specs.declared.parts.Operand.{Operand}
 use Rattle.meaning.specs.Enumeration.{Env, agreed_one, agreed, same_ids}

@@ -1,9 +1,9 @@
 -- The walk over the partners of a head: what next gives comes first, and the rest is left.
-use Rattle.std.proofs.Common.{◌≡◌, ℕ, ◌+◌, ◌<◌, Bool, true, false, cond, not, ◌&&◌, eqb, List, [], ◌∷◌, ◌++◌, Some, None, Option, sym, refl, ap, ◌∙◌, arith}
+use Rattle.std.proofs.Common.{◌≡◌, ℕ, ◌+◌, ◌<◌, false, cond, not, ◌&&◌, eqb, List, [], ◌∷◌, ◌++◌, Some, None, Option, sym, ap, ◌∙◌, arith}
 use Rattle.facts.specs.declared.Fact.{Fact}
 use Rattle.records.specs.declared.parts.Head.{Head}
-use Rattle.store.specs.Store.{find, next_of, since, Above, Rising}
-use Rattle.store.proofs.Walks.{walk_more, walk_none, next_met, next_under, Met}
+use Rattle.store.specs.Store.{next_of, since, Above, Rising}
+use Rattle.store.proofs.Walks.{walk_more, walk_none, next_met, next_under}
 use Rattle.meaning.specs.Enumeration.{Env, Partner, agreed, among, extended, partner_of, partners}
 use Rattle.matching.specs.Parts.{matched, matched_by}
 

@@ -3,6 +3,7 @@
 //! Which facts a head matches and what it binds, whether the host says yes to the guards, whether
 //! an instance was fired before, and which of two instances is better. Each function is one word
 //! of the definitions. Below stand the definitions; above, the search that walks the heads.
+#![tactic(auto)]
 
 pub mod consider;
 pub mod env;

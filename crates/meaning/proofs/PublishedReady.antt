@@ -13,7 +13,7 @@ use Rattle.meaning.specs.declared.roll.Firing.{Firing}
 use Rattle.meaning.specs.declared.written.Written.{Written}
 use Rattle.meaning.specs.Setup.{Setup, State}
 use Rattle.meaning.specs.Words.{In, Both, Different, Numbered}
-use Rattle.meaning.specs.Instances.{number, Agrees, ids_of, padded, Waits, IsDue, DueIs}
+use Rattle.meaning.specs.Instances.{Agrees, ids_of, padded, Waits, IsDue, DueIs}
 use Rattle.meaning.specs.Enumeration.{Env, unbound}
 use Rattle.meaning.specs.Agreement.{Proper}
 use Rattle.meaning.specs.Firing.{bindings, of_rule, body_of, taken_ids, taking_off, rule_at, body_worked}

@@ -11,7 +11,7 @@ use Rattle.meaning.specs.Setup.{Setup, State}
 use Rattle.meaning.specs.Words.{In, Numbered}
 use Rattle.meaning.specs.Instances.{padded}
 use Rattle.meaning.specs.Firing.{rule_at}
-use Rattle.meaning.specs.Published.{kept, removed, at_heads, tuple, heads_of, tuple_of, history_of, Shape, Shaped}
+use Rattle.meaning.specs.Published.{kept, removed, at_heads, heads_of, tuple_of, history_of, Shape, Shaped}
 use Rattle.meaning.proofs.PublishedHeads.{at_heads_padded, same_ids_from}
 
 -- Rules by their numbers.

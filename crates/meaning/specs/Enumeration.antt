@@ -8,7 +8,7 @@
 --     all_waiting           every instance that waits, rule by rule
 --     chosen best d         the better of the two, the first met where they are level
 --     due_of s t            the due instance
-use Rattle.std.specs.Prelude.{ℕ, suc, Bool, true, false, cond, not, ◌&&◌, ◌||◌, List, [], ◌∷◌, ◌++◌, replicate, ℤ, pos, Some, None, fold, Option, ◌==◌, nat_eq, slice_index_or, slice_set}
+use Rattle.std.specs.Prelude.{ℕ, suc, Bool, true, false, cond, not, ◌&&◌, List, [], ◌∷◌, ◌++◌, replicate, ℤ, pos, Some, None, fold, Option, ◌==◌, nat_eq, slice_index_or, slice_set}
 use Rattle.std.specs.List.{flat_map}
 use Rattle.std.specs.Option.{unwrap_or}
 use Rattle.facts.specs.Positions.{all}

@@ -9,7 +9,7 @@
 --     fire s t n is            the state after the firing of rule n with the ids is, or its refusal:
 --                              body, then rows, then roll; a rule with fail wants only the roll
 --     hand_in s t k vs         the state after a hand-in, under the next id, or its refusal
-use Rattle.std.specs.Prelude.{ℕ, suc, ◌+◌, ◌-◌, Bool, true, false, cond, List, [], ◌∷◌, ◌++◌, length, take, ℤ, pos, is_some, Some, None, Ok, Err, Option, Result, nat_le, nat_lt, slice_index_or}
+use Rattle.std.specs.Prelude.{ℕ, suc, ◌+◌, ◌-◌, Bool, true, false, cond, List, [], ◌∷◌, ◌++◌, length, take, ℤ, pos, Some, None, Ok, Err, Option, Result, nat_le, nat_lt, slice_index_or}
 use Rattle.std.specs.Option.{unwrap_or}
 use Rattle.facts.specs.Positions.{all, unused_clear, is_zero}
 use Rattle.facts.specs.declared.Fact.{Fact}
@@ -28,7 +28,6 @@ use Rattle.meaning.specs.declared.refusal.Site.TheVariants as site
 use Rattle.meaning.specs.declared.refusal.WorkingFault.{WorkingFault}
 use Rattle.meaning.specs.declared.roll.Entry.TheVariants.{HandedIn, Fired}
 use Rattle.meaning.specs.declared.written.Written.{Written}
-use Rattle.meaning.specs.declared.due.Due.{Due}
 use Rattle.meaning.specs.Setup.{Setup, State}
 use Rattle.meaning.specs.Enumeration.{Env, unbound, agreed, worth}
 

@@ -11,7 +11,7 @@
 --     IsDue d             d waits, nothing that waits is better, and of what is level with it
 --                         nothing is earlier
 --     DueIs r             r is the due instance, or none where nothing waits
-use Rattle.std.specs.Prelude.{◌≡◌, ℕ, ◌<◌, Bool, true, false, ◌⊎◌, List, [], ◌∷◌, ◌++◌, map, take, ℤ, Some, None, Option}
+use Rattle.std.specs.Prelude.{◌≡◌, ℕ, ◌<◌, true, false, ◌⊎◌, List, [], ◌∷◌, ◌++◌, map, take, ℤ, Some, None, Option}
 use Rattle.facts.specs.declared.Fact.{Fact}
 use Rattle.records.specs.declared.parts.Guard.{Guard}
 use Rattle.records.specs.declared.parts.Head.{Head}

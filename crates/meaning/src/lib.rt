@@ -7,6 +7,7 @@
 //! has the due instance as a function, and `Agreement` says that it is the one in words; `Published` is
 //! the priority semantics as it was published, and a run's moves in it. `laws` proves both. Below stand
 //! facts, hosts and rules; above, the tally, the search and the run.
+#![tactic(auto)]
 
 pub mod answers;
 pub mod due;

@@ -4,6 +4,7 @@
 //! whether the first is better. Plain goes by the value alone, banded by the band and then the
 //! value. Nothing stands below this crate; the search for the due instance stands above it, and
 //! uses no more of an order than the three laws of `Order`.
+#![tactic(auto)]
 
 pub mod banded;
 pub mod order;

@@ -4,6 +4,7 @@
 //! store, roll and answers are those of the tally of the calls, the roll accounts for the store, each
 //! firing was due, final means final, and the roll alone decides. Below stands the run; above, the
 //! report, which performs what a week file means.
+#![tactic(auto)]
 
 pub mod make;
 pub mod perform;

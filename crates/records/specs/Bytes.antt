@@ -8,7 +8,7 @@
 --     record_at k bs     the same; none where a field is out of its range
 --     below, flag, comparator_of, operation_of, variable_of, operand_at, working_at    the fields
 --     fact_kind_at, head_at, guard_at, body_at, end_at, goal_at                        the bodies
-use Rattle.std.specs.Prelude.{ℕ, ◌+◌, ◌*◌, Bool, true, false, cond, List, [], ◌∷◌, length, ℤ, Some, None, Ok, Err, Option, Result, ◌==◌, nat_lt, slice_index}
+use Rattle.std.specs.Prelude.{ℕ, ◌+◌, ◌*◌, Bool, true, false, cond, List, [], ◌∷◌, length, Some, None, Ok, Err, Option, Result, ◌==◌, nat_lt, slice_index}
 use Rattle.std.specs.Int.{w32}
 use Rattle.std.proofs.Common.{to_z}
 use Rattle.std.specs.Option.{ok_or}

@@ -7,7 +7,7 @@
 --     bound hs o         o is a constant or a variable that some head binds
 --     closed r           r has a head, and each variable in its guards, body facts and rank is bound
 --     small r            r has at most four heads, and their variables have numbers below 12
-use Rattle.std.specs.Prelude.{ℕ, Bool, true, false, ◌&&◌, ◌||◌, List, [], ◌∷◌, length, pos, Some, None, Option, ◌==◌, nat_le, nat_lt, slice_index_or}
+use Rattle.std.specs.Prelude.{ℕ, Bool, true, false, ◌&&◌, ◌||◌, List, [], ◌∷◌, length, pos, None, Option, ◌==◌, nat_le, nat_lt, slice_index_or}
 use Rattle.facts.specs.Positions.{all}
 use Rattle.few.specs.Few.{listed}
 use Rattle.host.specs.declared.types.Working.{Working}

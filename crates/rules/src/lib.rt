@@ -3,6 +3,7 @@
 //! The plain types, and what makes a rule closed (`specs/Rules.antt`). Below stand the records of
 //! the week file, whose parts a rule is made of; above, the draft that makes rules and the search
 //! that matches them.
+#![tactic(auto)]
 
 use facts::Kind;
 use few::Few;

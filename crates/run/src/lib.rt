@@ -4,6 +4,7 @@
 //! changes, and its state (live facts, roll, next id, whether failed), which each call changes as the
 //! tally says. Below stand the tally, the search and the firing; above, any list of calls and the
 //! report.
+#![tactic(auto)]
 
 pub mod calls;
 pub mod change;

@@ -1,5 +1,5 @@
 -- A step of the search on the levels as the code keeps them: an array and how many are reached.
-use Rattle.std.proofs.Common.{◌≡◌, ℕ, ◌+◌, ◌-◌, ◌<◌, ◌≤◌, List, [], ◌∷◌, ◌++◌, length, get_or, take, set, Some, None, Option, sym, refl, ap, ◌∙◌, subst, arith}
+use Rattle.std.proofs.Common.{◌≡◌, ℕ, ◌+◌, ◌-◌, ◌<◌, ◌≤◌, List, [], ◌∷◌, ◌++◌, length, get_or, take, set, Some, None, Option, sym, ap, ◌∙◌, subst, arith}
 use Rattle.records.specs.declared.parts.Head.{Head}
 use Rattle.rules.specs.Rules.{Rule}
 use Rattle.meaning.specs.Setup.{Setup, State}

@@ -1,7 +1,7 @@
 -- What is left after a step gives the same answer.
-use Rattle.std.proofs.Common.{◌≡◌, ℕ, zero, suc, ◌+◌, ◌-◌, ◌<◌, ◌≤◌, Bool, true, false, cond, not, ◌&&◌, List, [], ◌∷◌, ◌++◌, length, get_or, take, drop, set, Some, None, fold, Option, sym, refl, ap, ◌∙◌, subst, append_assoc, append-nil, add-zero, add-suc, arith}
+use Rattle.std.proofs.Common.{◌≡◌, ℕ, zero, suc, ◌+◌, ◌<◌, ◌≤◌, Bool, true, false, cond, not, ◌&&◌, List, [], ◌∷◌, ◌++◌, length, take, drop, set, Some, None, fold, Option, sym, refl, ap, ◌∙◌, subst, append_assoc, append-nil, add-zero, arith}
 use Rattle.std.specs.List.{flat_map}
-use Rattle.std.proofs.lemmas.List.{drop_more, drop_all, take_more_set}
+use Rattle.std.proofs.lemmas.List.{drop_more, drop_all}
 use Rattle.facts.specs.Positions.{all}
 use Rattle.facts.specs.declared.Fact.{Fact}
 use Rattle.records.specs.declared.parts.Head.{Head}
@@ -12,8 +12,7 @@ use Rattle.meaning.specs.Enumeration.{Env, Match, Partner, instances, partners, 
 use Rattle.meaning.specs.Instances.{padded}
 use Rattle.meaning.specs.Setup.{Setup, State}
 use Rattle.meaning.specs.declared.due.Due.{Due}
-use Rattle.matching.specs.Parts.{considered, improving, yes}
-use Rattle.matching.proofs.Arrays.{four_items}
+use Rattle.matching.specs.Parts.{considered, improving}
 use Rattle.search.specs.declared.walk.Level.{Level}
 use Rattle.search.specs.Offers.{offered}
 use Rattle.search.specs.Walks.{no_head, head_at, rest, left_over, Blank, Blanks}

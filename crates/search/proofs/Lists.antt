@@ -1,7 +1,7 @@
 -- Lists that one step of the search changes at their end.
-use Rattle.std.proofs.Common.{◌≡◌, ℕ, suc, ◌+◌, ◌-◌, ◌<◌, ◌≤◌, List, [], ◌∷◌, ◌++◌, length, get_or, take, set, fold, sym, refl, ap, ◌∙◌, append_assoc, arith, length-set, length-take}
+use Rattle.std.proofs.Common.{◌≡◌, ℕ, ◌+◌, ◌-◌, ◌<◌, ◌≤◌, List, [], ◌∷◌, ◌++◌, length, get_or, take, set, fold, sym, refl, ap, ◌∙◌, append_assoc, arith, length-set, length-take}
 use Rattle.std.specs.List.{flat_map}
-use Rattle.std.proofs.lemmas.List.{take_more, take_more_set, take-set-le}
+use Rattle.std.proofs.lemmas.List.{take_more, take_more_set}
 
 module _ {A : Type 0} (xs : List A) (n : ℕ) (d : A) (some : 0 < n) (within : n ≤ length xs) where
   abbrev at : ℕ

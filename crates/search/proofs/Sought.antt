@@ -1,8 +1,8 @@
 -- Rule by rule: what is left gives the due instance.
-use Rattle.std.proofs.Common.{◌≡◌, ℕ, zero, suc, ◌+◌, ◌<◌, ◌≤◌, Bool, true, false, ◌&&◌, List, [], ◌∷◌, ◌++◌, map, length, get_or, drop, Some, None, Option, sym, refl, ap, ◌∙◌, subst, add-one, arith}
+use Rattle.std.proofs.Common.{◌≡◌, ℕ, zero, suc, ◌+◌, ◌<◌, ◌≤◌, Bool, true, false, ◌&&◌, List, [], ◌∷◌, map, length, get_or, drop, Option, sym, refl, ap, ◌∙◌, subst, add-one, arith}
 use Rattle.std.proofs.lemmas.List.{drop_more, drop_all}
 use Rattle.facts.specs.Positions.{all}
-use Rattle.rules.specs.Rules.{Rule, rule_of, closed, small, headed, parts_bound, bound}
+use Rattle.rules.specs.Rules.{rule_of, closed, small, headed, parts_bound, bound}
 use Rattle.rules.specs.declared.Rule.{Rule as RuleData}
 use Rattle.meaning.specs.Enumeration.{chosen, instances, unbound, waiting_of, waiting_from, due_of}
 use Rattle.meaning.specs.Instances.{DueIs}

@@ -1,14 +1,14 @@
 -- The three ways a step of the search can go: the deepest level is done with, its partner completes
 -- an instance, or its partner opens the next head.
-use Rattle.std.proofs.Common.{◌≡◌, ℕ, suc, ◌+◌, ◌-◌, ◌<◌, ◌≤◌, List, [], ◌∷◌, ◌++◌, length, get_or, take, drop, set, Option, sym, refl, ap, ◌∙◌, subst, append_assoc, arith, length-append}
+use Rattle.std.proofs.Common.{◌≡◌, ℕ, suc, ◌+◌, ◌<◌, List, [], ◌∷◌, ◌++◌, length, take, drop, set, Option, sym, ap, ◌∙◌, subst, append_assoc, arith, length-append}
 use Rattle.std.proofs.lemmas.List.{take_more_set}
 use Rattle.rules.specs.Rules.{Rule}
 use Rattle.store.specs.Store.{since}
-use Rattle.meaning.specs.Enumeration.{Env, Match, instances, partners}
+use Rattle.meaning.specs.Enumeration.{Match, instances, partners}
 use Rattle.meaning.specs.Instances.{padded}
 use Rattle.meaning.specs.Setup.{Setup, State}
 use Rattle.meaning.specs.declared.due.Due.{Due}
-use Rattle.matching.specs.Parts.{considered, Partnered}
+use Rattle.matching.specs.Parts.{considered}
 use Rattle.matching.specs.declared.partner.Partner.{Partner}
 use Rattle.search.specs.declared.walk.Level.{Level}
 use Rattle.search.specs.Offers.{offered}

@@ -1,5 +1,5 @@
 -- A walk from the first head until nothing is left has met every instance of the rule.
-use Rattle.std.proofs.Common.{◌≡◌, ℕ, ◌<◌, ◌≤◌, min, true, ltb, List, [], ◌∷◌, length, take, replicate, Option, sym, refl, ap, ◌∙◌, subst, arith}
+use Rattle.std.proofs.Common.{◌≡◌, ℕ, ◌<◌, ◌≤◌, min, true, List, [], ◌∷◌, length, take, replicate, Option, sym, refl, ap, ◌∙◌, subst, arith}
 use Rattle.std.proofs.lemmas.Bool.{ltb-true}
 use Rattle.rules.specs.Rules.{Rule, headed}
 use Rattle.meaning.specs.Enumeration.{instances, unbound}
@@ -7,7 +7,7 @@ use Rattle.meaning.specs.Setup.{Setup, State}
 use Rattle.meaning.specs.declared.due.Due.{Due}
 use Rattle.search.specs.declared.walk.Level.{Level}
 use Rattle.search.specs.Offers.{offered}
-use Rattle.search.specs.Walks.{first_level, Blanks, Advanced}
+use Rattle.search.specs.Walks.{first_level, Advanced}
 use Rattle.search.proofs.Leftovers.{rest_next}
 
 module _ {R : Type 0} (s : Setup R) (t : State) (n : ℕ) (r : Rule) (head : headed r ≡ true) (start best : Option (Due R)) where

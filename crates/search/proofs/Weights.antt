@@ -1,5 +1,5 @@
 -- The weight of the levels falls with every step.
-use Rattle.std.proofs.Common.{◌≡◌, ℕ, suc, ◌+◌, ◌-◌, ◌*◌, ◌^◌, ◌<◌, ◌≤◌, List, [], ◌∷◌, ◌++◌, length, sym, refl, ap, ◌∙◌, add_assoc, mul-le-mul_right, zero-lt-suc, mul_assoc, mul_comm, add-mul, one-mul, pow-suc, arith, length-append}
+use Rattle.std.proofs.Common.{◌≡◌, ℕ, suc, ◌+◌, ◌-◌, ◌*◌, ◌^◌, ◌<◌, ◌≤◌, List, [], ◌∷◌, ◌++◌, length, sym, ap, ◌∙◌, add_assoc, mul-le-mul_right, zero-lt-suc, add-mul, pow-suc, arith, length-append}
 use native.Mathlib.Nat.{one-le-pow}
 use Rattle.search.specs.declared.walk.Level.{Level}
 use Rattle.search.specs.Walks.{digit, weight}

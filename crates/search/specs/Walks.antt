@@ -8,11 +8,11 @@
 --     weight k ls             falls with every step of the search
 --     levels_of w             the levels that have been reached
 --     Advanced ..             a step of the search: what is left gives the same answer
-use Rattle.std.specs.Prelude.{◌≡◌, ℕ, suc, ◌+◌, ◌-◌, ◌*◌, ◌^◌, false, List, [], ◌∷◌, ◌++◌, length, take, drop, pos, Option, slice_index_or, slice_set}
+use Rattle.std.specs.Prelude.{◌≡◌, ℕ, suc, ◌+◌, ◌-◌, ◌*◌, ◌^◌, false, List, [], ◌∷◌, ◌++◌, take, drop, Option, slice_index_or, slice_set}
 use Rattle.std.specs.List.{flat_map}
 use Rattle.facts.specs.declared.Fact.{Fact}
 use Rattle.records.specs.declared.parts.Head.{Head}
-use Rattle.meaning.specs.Enumeration.{Env, Match, instances, partners, unbound}
+use Rattle.meaning.specs.Enumeration.{Match, instances, partners, unbound}
 use Rattle.meaning.specs.Instances.{padded}
 use Rattle.meaning.specs.Setup.{Setup, State}
 use Rattle.meaning.specs.declared.due.Due.{Due}

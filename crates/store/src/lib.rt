@@ -3,6 +3,8 @@
 //! A store means its rows, a number up to 4,096 that never changes, and the list of its live facts
 //! in rising id. `Store` is the interface; each store that keeps it stands in a file of its own. The
 //! crate stands on `facts`; a run stands on any store.
+#![tactic(auto)]
+
 ghost use Rattle.std.specs.Prelude.{◌≡◌, ℕ, ◌≤◌, List, [], length, is_ok};
 ghost use Rattle.facts.specs.declared.Fact.{Fact as LiveFact};
 ghost use Rattle.store.specs.Store.{find, without, next_of, Rising, Added, AtLeast};

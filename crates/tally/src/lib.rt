@@ -4,6 +4,7 @@
 //! under `specs/`: `Tally` says what a list of calls comes to, `Account` what holds of every run
 //! whatever came before, and `Derivation` that its roll is one of the published semantics. Below stands
 //! the meaning of each single call; above, the run, each call of which is held to all three.
+#![tactic(auto)]
 
 pub mod answers;
 pub mod calls;

@@ -4,6 +4,7 @@
 //! up to the first goal fact go into a draft, which is then closed; after it only goal facts may
 //! come. Below stand the records and the draft; above, what opens a run of the book and hands the
 //! goal facts in.
+#![tactic(auto)]
 
 mod goals;
 pub mod reader;

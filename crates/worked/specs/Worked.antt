@@ -4,7 +4,7 @@
 --     under s gs                           the state after the hand-ins gs
 --     after_steps s n t                    the state after n steps
 --     Worked                               what each week comes to
-use Rattle.std.specs.Prelude.{◌≡◌, ℕ, zero, suc, Bool, true, false, List, [], ◌∷◌, map, ℤ, pos, Some, None, Ok, Err, Option, Result, int_lt}
+use Rattle.std.specs.Prelude.{◌≡◌, ℕ, zero, suc, Bool, true, false, List, [], ◌∷◌, ℤ, pos, Some, None, Ok, Err, Option, int_lt}
 use Rattle.facts.specs.declared.Fact.{Fact}
 use Rattle.host.specs.Counts.{is_count, count_says, count_works}
 use Rattle.host.specs.Serials.{is_serial, serial_says, serial_works}
@@ -17,12 +17,9 @@ use Rattle.order.specs.declared.banded.BandRank.{BandRank}
 use Rattle.records.specs.declared.parts.Operand.{Operand}
 use Rattle.records.specs.declared.parts.Operand.TheVariants.{Constant, Variable}
 use Rattle.records.specs.declared.parts.Head.{Head}
-use Rattle.records.specs.declared.parts.Guard.{Guard}
 use Rattle.rules.specs.declared.BodyFact.{BodyFact}
 use Rattle.rules.specs.Rules.{Rule}
-use Rattle.meaning.specs.declared.answers.Stepped.{Stepped}
 use Rattle.meaning.specs.declared.answers.Stepped.TheVariants as stepped
-use Rattle.meaning.specs.declared.refusal.Refusal.{Refusal}
 use Rattle.meaning.specs.declared.refusal.Refusal.TheVariants as refusal
 use Rattle.meaning.specs.declared.refusal.Site.TheVariants as site
 use Rattle.meaning.specs.declared.roll.Entry.{Entry}

@@ -2,6 +2,7 @@
 //!
 //! No code is run here. `specs/Worked.antt` writes the books and facts down and says what each
 //! week comes to; the contract below names it, so it is proved. Nothing stands above.
+#![tactic(auto)]
 
 ghost use Rattle.worked.specs.Worked.{Worked};
 

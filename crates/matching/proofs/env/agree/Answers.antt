@@ -1,4 +1,4 @@
-use Rattle.std.proofs.Common.{◌≡◌, length, get_or, ℤ, pos, sym, ◌∙◌, w32, SFits, rules}
+use Rattle.std.proofs.Common.{◌≡◌, length, get_or, pos, sym, ◌∙◌, w32, SFits, rules}
 use Rattle.std.proofs.lemmas.Int.{to_z-of_z}
 use Rattle.matching.proofs.Arrays.{first_differs, second_differs, third_decides}
 use Rattle.matching.proofs.env.agree.Goals as goal

@@ -1,4 +1,4 @@
-use Rattle.std.proofs.Common.{◌≡◌, ◌<◌, ◌≤◌, length, get_or, pos, arith, w32, SFits, rules}
+use Rattle.std.proofs.Common.{◌≡◌, length, get_or, pos, arith, w32, SFits, rules}
 use Rattle.std.proofs.lemmas.Int.{to_z-of_z}
 use Rattle.matching.proofs.Agreeing.{agreed_more, agreed_differs, agreed_end}
 use Rattle.matching.proofs.env.agreed.Goals as goal

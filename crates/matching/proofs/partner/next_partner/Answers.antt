@@ -1,5 +1,5 @@
 use Rattle.std.proofs.Common.{sym, subst, arith}
-use Rattle.matching.specs.Parts.{Later, Partnered}
+use Rattle.matching.specs.Parts.{Later}
 use Rattle.matching.proofs.Partners.{walk_ends, walk_finds, walk_passes, next_spare}
 use Rattle.matching.proofs.partner.next_partner.Goals as goal
 

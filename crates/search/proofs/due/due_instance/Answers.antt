@@ -1,4 +1,4 @@
-use Rattle.std.proofs.Common.{◌≡◌, true, List, [], map, None, sym, ap, ◌∙◌, subst}
+use Rattle.std.proofs.Common.{◌≡◌, true, List, [], None, ap, ◌∙◌, subst}
 use Rattle.facts.specs.Positions.{all}
 use Rattle.rules.specs.Rules.{Rule, closed, small}
 use Rattle.book.specs.Books.{book_of}

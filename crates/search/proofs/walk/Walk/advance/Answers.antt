@@ -1,5 +1,4 @@
-use Rattle.std.proofs.Common.{◌≡◌, ◌+◌, ◌-◌, ◌<◌, ◌≤◌, length, ap, arith, rules}
-use Rattle.few.specs.Few.{listed}
+use Rattle.std.proofs.Common.{◌+◌, ◌-◌, ◌<◌, length, ap, arith, rules}
 use Rattle.search.specs.declared.walk.Level.{Level}
 use Rattle.search.proofs.Advances.{back_lighter, on_lighter, more_lighter, goes_back, completes, goes_on}
 use Rattle.search.proofs.walk.Walk.advance.Goals as goal

@@ -1,9 +1,9 @@
-use Rattle.std.proofs.Common.{◌≡◌, ◌≤◌, [], length}
+use Rattle.std.proofs.Common.{◌≤◌, [], length}
 use Rattle.few.specs.Few.{listed}
 use Rattle.rules.specs.Rules.{rule_of}
 use Rattle.matching.specs.Parts.{Ready}
-use Rattle.search.specs.Offers.{asking, seeing, offered}
-use Rattle.search.specs.Walks.{levels_of, left_over, weight, Blanks, Advanced}
+use Rattle.search.specs.Offers.{asking, seeing}
+use Rattle.search.specs.Walks.{levels_of, weight, Advanced}
 use Rattle.search.proofs.walk.over.best_of_rule.Given as goal
 
 abbrev pub invariant-loop-walk : goal.invariant-loop-walk

@@ -1,4 +1,4 @@
-use Rattle.std.proofs.Common.{ℕ, Option, sym, subst}
+use Rattle.std.proofs.Common.{sym, subst}
 use Rattle.store.specs.Store.{AtLeast}
 use Rattle.store.proofs.Spots.{next_scanned}
 use Rattle.store.proofs.Walks.{next_bound}
