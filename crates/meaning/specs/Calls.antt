@@ -15,7 +15,7 @@
 --     Fires s t u failed               the due instance is fired into the state u
 --     Rests s t u                      nothing waits, and u is t
 --     Refuses s t u r                  the run has failed, or the due instance is refused; u is t
---     RefusesBy s t u r                the same, with the number of the refusal (Numbered)
+--     RefusesBy s t u r                the same, with the number of the refusal (ByNumber)
 --     HandsIn s t k vs u r             a hand-in answers r and leaves the state u
 --     TakesIn s t k vs u r             accepted under the next id (Accepts), or refused by the number of
 --                                      the first cause that holds (TurnsAway), and u is t
@@ -223,13 +223,13 @@ module _ {R : Type 0} where
     pub steps : Steps s t u r
 
   -- The same with the number of the refusal: 1 on a failed run, else that of the firing
-  pub data Numbered (s : Setup R) (t : State) (r : Refusal) : Type 0 where
-    over : t.failed ≡ true → refusal_numbers r ≡ plain_number 1 → Numbered s t r
-    stays : t.failed ≡ false → (d : Due R) → IsDue s t d → TurnsDown s t d.rule d.ids (refusal_numbers r) → Numbered s t r
+  pub data ByNumber (s : Setup R) (t : State) (r : Refusal) : Type 0 where
+    over : t.failed ≡ true → refusal_numbers r ≡ plain_number 1 → ByNumber s t r
+    stays : t.failed ≡ false → (d : Due R) → IsDue s t d → TurnsDown s t d.rule d.ids (refusal_numbers r) → ByNumber s t r
 
   pub record RefusesBy (s : Setup R) (t u : State) (r : Refusal) : Type 0 where
     pub refuses : Refuses s t u r
-    pub number : Numbered s t r
+    pub number : ByNumber s t r
 
   abbrev pub StepsBy : Setup R → State → State → Result Stepped Refusal → Type 0
   StepsBy s t u (Ok stepped.Fired) = Fires s t u false

@@ -71,7 +71,7 @@ impl<S: Store, H: Host, O: Order> Run<S, H, O> {
     fn admit(&self, kind: Kind, values: Values) -> Result<(), Refusal>
         ensures place { OnOk result (vec_len self.now.roll < 1024) }
         ensures row { Standing S.Store.sound S.Store.live self.now → OnOk result (length (S.Store.live self.now.store) < S.Store.rows self.now.store) }
-        ensures value { Standing S.Store.sound S.Store.live self.now → result ≡ told (hand_in (setup S.Store H.Host O.Order self.now) (state S.Store self.now) kind values) }
+        ensures value { Standing S.Store.sound S.Store.live self.now → result ≡ told (hand_in (setup_of S.Store.rows H.Host.value H.Host.says H.Host.works O.Order.rank O.Order.better self.now) (state_of S.Store.live self.now) kind values) }
     {
         if self.failed {
             return Err(Refusal::Failed);

@@ -55,9 +55,9 @@ impl<S: Store, H: Host, O: Order> Run<S, H, O> {
 
     // Fires an instance, or says why it is refused.
     pub(crate) fn fire(&mut self, number: u8, ids: [Id; 4]) -> Result<Stepped, Refusal>
-        ensures same { setup S.Store H.Host O.Order self.new ≡ setup S.Store H.Host O.Order self.old }
-        ensures standing { Standing S.Store.sound S.Store.live self.old → Fireable (setup S.Store H.Host O.Order self.old) (state S.Store self.old) number ids → Standing S.Store.sound S.Store.live self.new }
-        ensures fires { Standing S.Store.sound S.Store.live self.old → Fireable (setup S.Store H.Host O.Order self.old) (state S.Store self.old) number ids → FiresTo (setup S.Store H.Host O.Order self.old) (state S.Store self.old) number ids (state S.Store self.new) result }
+        ensures kept { setup_of S.Store.rows H.Host.value H.Host.says H.Host.works O.Order.rank O.Order.better self.new ≡ setup_of S.Store.rows H.Host.value H.Host.says H.Host.works O.Order.rank O.Order.better self.old }
+        ensures standing { Standing S.Store.sound S.Store.live self.old → Fireable (setup_of S.Store.rows H.Host.value H.Host.says H.Host.works O.Order.rank O.Order.better self.old) (state_of S.Store.live self.old) number ids → Standing S.Store.sound S.Store.live self.new }
+        ensures fires { Standing S.Store.sound S.Store.live self.old → Fireable (setup_of S.Store.rows H.Host.value H.Host.says H.Host.works O.Order.rank O.Order.better self.old) (state_of S.Store.live self.old) number ids → FiresTo (setup_of S.Store.rows H.Host.value H.Host.says H.Host.works O.Order.rank O.Order.better self.old) (state_of S.Store.live self.old) number ids (state_of S.Store.live self.new) result }
     {
         let rolled = self.roll.len();
         let Some(rule) = numbered(self.book.rules(), number) else {

@@ -18,7 +18,7 @@ use Rattle.meaning.specs.Firing.{fire}
 use Rattle.meaning.specs.Calls.{fired_or_failed, Course, one_more, onward, Adds, sighted, look_answer, Sees, LooksTo}
 use Rattle.meaning.specs.Calls.{firing_answer, firing_after, step_answer, step_after, Fires, Refuses, Steps, StepsTo, StepsBy, course, run_answer, run_after, Runs, RunsTo}
 use Rattle.meaning.specs.Calls.Refuses.{over, stays}
-use Rattle.meaning.specs.Calls.Numbered.{over as numbered_over, stays as numbered_stays}
+use Rattle.meaning.specs.Calls.ByNumber.{over as numbered_over, stays as numbered_stays}
 use Rattle.meaning.specs.Calls.Runs.{counts, fires, fails, rests, refuses}
 use Rattle.meaning.proofs.Agreement.{due_is}
 use Rattle.meaning.proofs.PublishedCalls.{made}

@@ -54,7 +54,7 @@ returns-in-Final g c = record {
 
 pub returns-in-Due : goal.returns-in-Due
 returns-in-Due g c = record {
-  same = c.fire.ensures.same;
+  same = c.fire.ensures.kept;
   does = λ h.
       let r = c.args.self.now in
       let held = look_due (setup g r) (state g r) c.in-Due.rule c.in-Due.ids c.in-Due.refusal (ap Ok (sym c.in-Due.is) ∙ sym c.in_ok-held.was ∙ h) in
@@ -63,5 +63,5 @@ returns-in-Due g c = record {
       let stepped = λ (b : Standing g.S.Store.sound g.S.Store.live r).
       fires_step (setup g r) (state g r) held.unfailed held.due held.found c.in-Due.rule c.in-Due.ids held.rule held.ids (state g c.fire.new.self) c.fire.result (c.fire.ensures.fires b (fireable b)) in
       does g.S.Store g.H.Host g.O.Order r call.Step c.fire.new.self (answer.Step c.fire.result) (lawful g r) g.met.S.Store.rising
-      c.fire.ensures.same (λ b. c.fire.ensures.standing b (fireable b)) (λ b. (stepped b).0) (λ b. ap answer.Step (stepped b).1);
+      c.fire.ensures.kept (λ b. c.fire.ensures.standing b (fireable b)) (λ b. (stepped b).0) (λ b. ap answer.Step (stepped b).1);
 }

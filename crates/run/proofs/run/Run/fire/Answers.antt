@@ -29,7 +29,7 @@ returns-in_default g c =
     let long : length c.rules.result.now ≡ length (book_of c.args.self.now.book).rules =
     sym (length-map c.rules.result.now rule_of) ∙ ap length c.rules.ensures.value in
     record {
-      same = refl;
+      kept = refl;
       standing = λ st ok. record { kept = st.kept; below = st.below };
       fires = λ st ok. absurd (c.in_default.ensures.value ok.from_one (omega (arith, ok.in_book, long)));
     }
@@ -41,7 +41,7 @@ returns-in_err-body g c =
     let p = err_from_is_err_and c.from_residual.result c.from_residual.ensures.1 in
     let result_is : c.from_residual.result ≡ Err c.in_err-body.field-0.0 = p.1 ∙ ap Err p.2 in
     record {
-      same = refl;
+      kept = refl;
       standing = λ st ok. record { kept = st.kept; below = st.below };
       fires = λ st ok.
           subst (λ r. FiresTo (setup g c.args.self.now) (state g c.args.self.now) c.args.number c.args.ids (state g c.args.self.now) r) (sym result_is)
@@ -89,7 +89,7 @@ module _ (g : given.Over) (c : goal.After-answer g) (st : Standing g.S.Store.sou
 
 pub returns : goal.returns
 returns g c = record {
-  same = same_rows g.S.Store g.H.Host g.O.Order (book_of c.args.self.now.book) c.args.self.now.store c.change_store.new.store c.args.self.now.host c.args.self.now.order c.change_store.ensures.rows;
+  kept = same_rows g.S.Store g.H.Host g.O.Order (book_of c.args.self.now.book) c.args.self.now.store c.change_store.new.store c.args.self.now.host c.args.self.now.order c.change_store.ensures.rows;
   standing = λ st ok. record {
     kept = c.change_store.ensures.sound st.kept;
     below =

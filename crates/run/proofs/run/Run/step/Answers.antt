@@ -67,10 +67,10 @@ returns-in-Some g c =
     let stepped = λ (b : Standing g.S.Store.sound g.S.Store.live r).
     fires_step (setup g r) (state g r) c.if-self.false d (same b) d.rule d.ids refl refl (state g c.fire.new.self) c.fire.result (c.fire.ensures.fires b (fireable b)) in
     record {
-      kept = c.fire.ensures.same;
+      kept = c.fire.ensures.kept;
       standing = λ b. c.fire.ensures.standing b (fireable b);
       does =
           does g.S.Store g.H.Host g.O.Order r call.Step c.fire.new.self (answer.Step c.fire.result) (lawful g r) g.met.S.Store.rising
-          c.fire.ensures.same (λ b. c.fire.ensures.standing b (fireable b)) (λ b. (stepped b).0) (λ b. ap answer.Step (stepped b).1);
+          c.fire.ensures.kept (λ b. c.fire.ensures.standing b (fireable b)) (λ b. (stepped b).0) (λ b. ap answer.Step (stepped b).1);
       steps = λ b. steps_from (setup g r) (state g r) (fit g r) (orderly g r b) (state g c.fire.new.self) c.fire.result (stepped b).0 (stepped b).1;
     }
