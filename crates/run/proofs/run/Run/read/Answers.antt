@@ -27,12 +27,8 @@ fit g r = fit_of g.S.Store g.H.Host g.O.Order r (lawful g r)
 orderly : (g : given.Over) (r : The_run g) → Standing g.S.Store.sound g.S.Store.live r → Orderly (state g r)
 orderly g r b = orderly_of g.S.Store g.H.Host g.O.Order r g.met.S.Store.rising b
 
-pub returns : goal.returns
-returns g c =
+pub returns-clause-does : goal.returns-clause-does
+returns-clause-does g c =
     let r = c.args.self.now in
-    record {
-      value = λ b. c.read.ensures.value b.kept;
-      does =
-          does g.S.Store g.H.Host g.O.Order r (call.Read c.args.id) r (answer.Read c.read.result) (lawful g r) g.met.S.Store.rising
-          refl (λ b. b) (λ b. refl) (λ b. ap answer.Read (c.read.ensures.value b.kept));
-    }
+    does g.S.Store g.H.Host g.O.Order r (call.Read c.args.id) r (answer.Read c.read.result) (lawful g r) g.met.S.Store.rising
+    refl (λ b. b) (λ b. refl) (λ b. ap answer.Read (c.read.ensures.value b.kept))
