@@ -39,16 +39,16 @@ pub returns : goal.returns
 returns g c =
     let r = c.args.self.now in
     let done = λ (b : Standing g.S.Store.sound g.S.Store.live r).
-    hand_in_done (setup g r) (state g r) c.args.kind c.args.values (c.in_default.ensures.value b) (c.in_default.ensures.row b) b.below (is_ok c.add.result) (g.S.Store.live c.add.new.self) (c.add.ensures.live b.kept)
+    hand_in_done (setup g r) (state g r) c.args.kind c.args.values (c.in_default.ensures.value b) (c.in_default.ensures.row b) b.below (is_ok c.add-added.result) (g.S.Store.live c.add-added.new.self) (c.add-added.ensures.live b.kept)
     (vec_items c.push_reserved.new.self) _ c.push_reserved.ensures.items refl in
-    let same = same_rows g.S.Store g.H.Host g.O.Order (book_of r.book) r.store c.add.new.self r.host r.order c.add.ensures.rows in
-    let below = λ (b : Standing g.S.Store.sound g.S.Store.live r). hand_in_below (setup g r) (state g r) c.args.kind c.args.values (c.in_default.ensures.value b) (c.in_default.ensures.row b) b.below (is_ok c.add.result) (g.S.Store.live c.add.new.self) (c.add.ensures.live b.kept) _ refl in
+    let same = same_rows g.S.Store g.H.Host g.O.Order (book_of r.book) r.store c.add-added.new.self r.host r.order c.add-added.ensures.rows in
+    let below = λ (b : Standing g.S.Store.sound g.S.Store.live r). hand_in_below (setup g r) (state g r) c.args.kind c.args.values (c.in_default.ensures.value b) (c.in_default.ensures.row b) b.below (is_ok c.add-added.result) (g.S.Store.live c.add-added.new.self) (c.add-added.ensures.live b.kept) _ refl in
     record {
       kept = same;
-      standing = λ b. record { kept = c.add.ensures.sound b.kept; below = below b };
+      standing = λ b. record { kept = c.add-added.ensures.sound b.kept; below = below b };
       does =
           does g.S.Store g.H.Host g.O.Order r (call.HandIn c.args.kind c.args.values) _ (answer.HandIn (Ok r.next)) (lawful g r) g.met.S.Store.rising
-          same (λ b. record { kept = c.add.ensures.sound b.kept; below = below b })
+          same (λ b. record { kept = c.add-added.ensures.sound b.kept; below = below b })
           (λ b. (done b).0) (λ b. ap answer.HandIn (done b).1);
       hands_in = λ b. hands_in_from (setup g r) (state g r) c.args.kind c.args.values _ (Ok r.next) (done b).0 (done b).1;
     }
