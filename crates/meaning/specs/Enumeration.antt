@@ -1,9 +1,17 @@
 -- The due instance as a function that can be run. Assumes nothing.
+-- Bindings first, which a firing starts from too:
 --     Env                   the number of each variable that is bound so far
+--     unbound               no variable is bound
+--     seen b v n e          e with the variable v at n, if b, its number so far, is none or n
+--     agreed_one o n e      the same of an operand o
 --     agreed os vs e        e with the operands os bound to the values vs, if they agree
---     extended h f used e   e with the head h matched by the fact f, which is not among those used
+--     worth e o             the number of an operand, 0 if unbound
+-- Then the instances, and the due one among them:
+--     among i is            i is one of is
+--     extended h used e f   e with the head h matched by the fact f, which is not among those used
 --     partners h used e fs  those of the facts fs that match the head h, each with its bindings
 --     instances ..          the ways to match heads, each as ids in head order and bindings
+--     fired roll n is       a firing of rule n with the ids is is on the roll
 --     waiting n r m         the instance m of the rule r of number n, if it waits: none or one
 --     all_waiting           every instance that waits, rule by rule
 --     chosen best d         the better of the two, the first met where they are level

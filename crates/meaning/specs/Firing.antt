@@ -1,14 +1,34 @@
--- What a firing does, and when it is refused. Assumes nothing.
+-- What a firing and a hand-in do, and when they are refused. Assumes nothing.
+-- The bindings that they start from (Env, unbound, agreed, worth) stand at the head of `Enumeration`.
+--     bound_to h f e           e with the head h bound to the fact f, if there is one and it agrees
 --     bindings live hs is e    e with each head bound to the live fact of its id
 --     put e w                  a working with its operands' numbers
+--     placed n k r             a cause as the fault of the k-th working of the n-th body fact
 --     worked_out works e ws n k   the values of the workings ws of the n-th body fact, the first
 --                              of them the k-th, or the first fault
---     body_of works e fs n     the body facts as kind and values, the first of them the n-th, or
---                              the first fault
+--     filled vs                three values, 0 where a position is unused
+--     written works e f n      the n-th body fact f as kind and values, or the first fault
+--     body_of works e fs n     the body facts, the first of them the n-th, or the first fault
+--     of_rule n r              a fault of the body as the refusal of rule n
 --     taken_ids hs is          the ids of the heads that are taken
+--     taking_off is fs         the facts without those of the ids is
+--     numbered_from n ws       worked-out facts under the ids n, n + 1, ..
+--     rule_at rs n             the rule of number n, counted from 1
+--     after_firing s t r n is ws  the state after rule r, of number n, was fired with the ids is and
+--                              wrote ws: heads taken, then facts added under the next ids
+--     body_worked s t r n is   what the firing writes, or its refusal; with fail it writes nothing
 --     fire s t n is            the state after the firing of rule n with the ids is, or its refusal:
 --                              body, then rows, then roll; a rule with fail wants only the roll
---     hand_in s t k vs         the state after a hand-in, under the next id, or its refusal
+--     used_values s t test a vs   the values at the used positions all pass the test
+--     handed s t k vs          a fact under the next id
+--     after_hand_in s t k vs   the state with that fact last
+--     ok_or s t o r            the value of o, or the refusal r where there is none
+--     hand_in s t k vs         the state after a hand-in, the fact last, or its refusal
+-- The numbers are read off the facts; that what a firing writes is the body under a substitution that
+-- matches its heads is said by `Applies` in `Published`, and of every firing by `Derivation` in `tally`.
+-- From the crates below: find and without on facts, and arity_of in a table of kinds; and_then goes
+-- on with a value and stops at a refusal, and unless b r is the refusal r unless b holds; positions
+-- at or above the arity are unused_clear where they hold 0.
 use Rattle.std.specs.Prelude.{ℕ, suc, ◌+◌, ◌-◌, Bool, true, false, cond, List, [], ◌∷◌, ◌++◌, length, take, ℤ, pos, Some, None, Ok, Err, Option, Result, nat_le, nat_lt, slice_index_or}
 use Rattle.std.specs.Option.{unwrap_or}
 use Rattle.facts.specs.Positions.{all, unused_clear, is_zero}

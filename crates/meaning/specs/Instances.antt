@@ -1,16 +1,19 @@
 -- Instances, waiting and the due instance, in words. Assumes nothing.
--- σ gives every variable its number, so that one variable has one number throughout.
+-- σ gives every variable its number, so that one variable has one number throughout; s is a setup, t a
+-- state.
 --     number σ o          the number of an operand
 --     Agrees σ h f        the fact f is of the head's kind, and its values are the head's operands
---     Instance hs σ fs    one live fact for each head, all different, in head order
+--     ids_of fs           the ids of facts
+--     Instance live hs σ fs   one live fact for each head, all different, in head order
 --     padded ids          four ids, 0 where there is no head
---     Waits d             d names an instance, the host says yes to every guard, no firing of the
+--     Yes s σ g           the host says yes to the guard g
+--     Waits s t d         d names an instance, the host says yes to every guard, no firing of the
 --                         same rule with the same ids in the same order is on the roll, and its
 --                         rank is the one that the order makes
 --     Earlier d e         d has the smaller rule number, then the smaller first id, second id, ..
---     IsDue d             d waits, nothing that waits is better, and of what is level with it
---                         nothing is earlier
---     DueIs r             r is the due instance, or none where nothing waits
+--     IsDue s t d         d waits, nothing that waits is better, and d is earlier than all else that is
+--                         level with it
+--     DueIs s t r         r is the due instance, or none where nothing waits
 use Rattle.std.specs.Prelude.{◌≡◌, ℕ, ◌<◌, true, false, ◌⊎◌, List, [], ◌∷◌, ◌++◌, map, take, ℤ, Some, None, Option}
 use Rattle.facts.specs.declared.Fact.{Fact}
 use Rattle.records.specs.declared.parts.Guard.{Guard}

@@ -1,4 +1,6 @@
 -- The refusals of a run by their numbers. Assumes nothing.
+--     number_at n p          the number n with the rule p; plain_number n, with nothing beside it
+--     rule_of_site w         the rule that wanted a row or a place, 0 for a hand-in
 --     refusal_numbers r      the number of r, then rule, body fact, working and cause, 0 where none
 use Rattle.std.specs.Prelude.{ℕ}
 use Rattle.host.specs.Causes.{cause_number}

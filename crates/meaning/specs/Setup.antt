@@ -14,12 +14,16 @@ use Rattle.rules.specs.Rules.{Rule}
 use Rattle.meaning.specs.declared.roll.Entry.{Entry}
 
 pub record Setup (R : Type 0) : Type 0 where
+  -- the book: the arity of each kind, by its number, if it is declared; and the rules
   pub kinds : List (Option ℕ)
   pub rules : List Rule
+  -- the store
   pub rows : ℕ
+  -- the host: which numbers are values, what it says to a comparator, what it makes of a working
   pub value : ℤ → Bool
   pub says : Comparator → ℤ → ℤ → Bool
   pub works : Working ℤ → Result ℤ Cause
+  -- the order: the rank of a band and a value, and whether one rank is better than another
   pub rank : ℕ → ℤ → R
   pub better : R → R → Bool
 
