@@ -5,12 +5,12 @@
 #![tactic(auto)]
 
 use anyhow::anyhow;
-use facts::Fact;
+use facts::BLANK;
 use host::counts::Counts;
 use order::plain::Plain;
-use report::conduct::conduct;
+use report::conduct::{Unread, conduct};
 use report::print::print;
-use std::alloc::{AllocError, Global};
+use std::alloc::Global;
 use std::io;
 use std::io::{BufWriter, Read, Write};
 use store::Store;
@@ -22,39 +22,25 @@ const DECIDING_BYTES: usize = 34_691;
 /// How many rows the store has.
 const ROWS: usize = 1024;
 
-const BLANK: Fact = Fact {
-    id: 0,
-    kind: 0,
-    values: [0; 3],
-};
-
 // The first bytes of an input, as many as decide, or all of them.
-fn first_bytes(heap: Global, input: &mut impl Read) -> anyhow::Result<Vec<u8>> {
-    let mut bytes = vec![in heap; 0u8; DECIDING_BYTES]?;
-    let mut filled = 0;
-    for _ in 0..=DECIDING_BYTES {
-        if filled >= bytes.len() {
-            break;
-        }
-        let count = input.read(&mut bytes[filled..])?;
-        if count == 0 {
-            break;
-        }
-        filled += count;
-    }
-    bytes.truncate(filled);
+fn first_bytes(heap: Global, input: impl Read + Drop) -> io::Result<Vec<u8>> {
+    // One place more than can be filled, so that no read makes the list grow.
+    let mut bytes = Vec::with_capacity(heap, DECIDING_BYTES + 1)?;
+    input.take(DECIDING_BYTES as u64).read_to_end(&mut bytes)?;
     Ok(bytes)
 }
 
 fn run(rt: &HostRuntime) -> anyhow::Result<()> {
     let heap = rt.alloc();
-    let file = first_bytes(heap, &mut rt.stdin())?;
+    let file = first_bytes(heap, rt.stdin())?;
     let rows = vec![in heap; BLANK; ROWS]?;
-    let Ok(report) = conduct(heap, file.as_slice(), Flat::new(rows), Counts, Plain) else {
-        return Err(anyhow!("no memory"));
-    };
+    let week = conduct(heap, &file, Flat::new(rows), Counts, Plain);
     let mut out = BufWriter::new(heap, rt.stdout())?;
-    print(&mut out, &report)?;
+    match week {
+        Ok(ended) => print(&mut out, &ended)?,
+        Err(Unread::Refused(refused)) => writeln!(out, "{refused}")?,
+        Err(Unread::NoMemory) => return Err(anyhow!("no memory")),
+    }
     out.flush()?;
     Ok(())
 }

@@ -1,39 +1,25 @@
--- What the tables mean after a rule has begun, and after the open rule was lent and changed.
-use Rattle.std.proofs.Common.{◌≡◌, ◌-◌, ◌<◌, ◌≤◌, true, false, ltb, List, [], ◌∷◌, ◌++◌, map, length, get_or, set, Ok, Err, vec_items, vec_len, vec_capacity, Result, sym, refl, ap, ◌∙◌, arith}
+-- What the tables mean after the open rule was lent and changed.
+use Rattle.std.proofs.Common.{◌≡◌, ◌-◌, ◌<◌, ◌≤◌, true, false, ltb, map, length, get_or, set, Ok, Err, vec_items, vec_len, vec_capacity, Result, sym, refl, ap, ◌∙◌, arith}
 use mathlib.Core.Option.{Option}
 use native.Mathlib.Bridge.{le_prop}
 use base.Fml.{GName}
 use borrow.Follows.Closed.{read_of}
 use lib.ListN.{length-map}
-use Rattle.std.proofs.lemmas.List.{map-set, map_push, get_or-map, set-get_or}
+use Rattle.std.proofs.lemmas.List.{map-set, get_or-map, set-get_or}
 use Rattle.std.proofs.lemmas.Bool.{ltb-true}
 use Rattle.std.specs.Vec.{with_item}
 use Rattle.records.specs.declared.fault.Fault.{Fault}
 use Rattle.records.specs.declared.fault.Fault.TheVariants as fault
-use Rattle.records.specs.declared.kinds.Record.TheVariants as record_of
 use Rattle.book.specs.declared.draft.Tables.{Tables as TablesData}
 use Rattle.rules.specs.declared.Rule.{Rule as RuleData}
 use Rattle.rules.specs.Rules.{Rule, rule_of, blank_rule}
 use Rattle.rules.specs.Results.{and_then, told, kept_or, unless}
-use Rattle.book.specs.Drafts.{Tables, open_rule, opened, entered}
+use Rattle.book.specs.Drafts.{Tables, open_rule, opened}
 use Rattle.book.specs.Held.{tables_of, with_last}
 
 module _ (t : TablesData) where
   as_many : length (map rule_of (vec_items t.rules)) ≡ vec_len t.rules
   as_many = length-map (vec_items t.rules) rule_of ∙ sym t.rules.ok.0
-
-  -- one rule more, or none
-  pub begin_full : false ≡ ltb (vec_len t.rules) 64 → entered (tables_of t) record_of.RuleBegins ≡ Err fault.TooMany
-  begin_full h = ap (λ b. and_then (unless b fault.TooMany) (λ _. Ok (record { kinds = t.kinds.arities; rules = (tables_of t).rules ++ blank_rule ∷ [] }))) (ap (λ n. ltb n 64) as_many ∙ sym h)
-
-  pub begin_more : true ≡ ltb (vec_len t.rules) 64 → entered (tables_of t) record_of.RuleBegins ≡ Ok (record { kinds = t.kinds.arities; rules = (tables_of t).rules ++ blank_rule ∷ [] })
-  begin_more h = ap (λ b. and_then (unless b fault.TooMany) (λ _. Ok (record { kinds = t.kinds.arities; rules = (tables_of t).rules ++ blank_rule ∷ [] }))) (ap (λ n. ltb n 64) as_many ∙ sym h)
-
-  pub begin_after : true ≡ ltb (vec_len t.rules) 64 → (rs : List RuleData) (r : RuleData) → rs ≡ vec_items t.rules ++ r ∷ [] → rule_of r ≡ blank_rule
-      → record { kinds = t.kinds.arities; rules = map rule_of rs } ≡ kept_or (entered (tables_of t) record_of.RuleBegins) (tables_of t)
-  begin_after h rs r e b =
-      ap (λ qs. record { kinds = t.kinds.arities; rules = qs }) (ap (map rule_of) e ∙ map_push rule_of (vec_items t.rules) r ∙ ap (λ q. (tables_of t).rules ++ q ∷ []) b)
-      ∙ sym (ap (λ x. kept_or x (tables_of t)) (begin_more h))
 
   -- there is no rule
   pub opened_none : (f : Rule → Result Rule Fault) → false ≡ ltb 0 (vec_len t.rules) → opened (tables_of t) f ≡ Err fault.MayNotFollow

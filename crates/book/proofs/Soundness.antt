@@ -1,8 +1,9 @@
 -- A draft keeps what it keeps of its rules, whatever record it takes.
-use Rattle.std.proofs.Common.{◌≡◌, ℕ, suc, ◌-◌, ◌<◌, ◌≤◌, Bool, true, false, cond, ◌&&◌, ltb, leb, List, [], ◌∷◌, ◌++◌, map, length, get_or, take, set, Some, Ok, Err, Result, sym, refl, ap, ◌∙◌, subst, ⊎_elim, arith, length-set}
+use Rattle.std.proofs.Common.{◌≡◌, ℕ, suc, ◌-◌, ◌<◌, ◌≤◌, Bool, true, false, cond, ◌&&◌, ltb, leb, List, [], ◌∷◌, ◌++◌, map, length, get_or, take, set, Some, Ok, Err, Result, sym, refl, ap, ◌∙◌, subst, arith, length-set}
 use lib.ListN.{length-map}
 use Rattle.std.proofs.lemmas.List.{take_at, take-set, drop_all, set_split, get_or_push, get_or-set_same, length_push, take-map}
-use Rattle.std.proofs.lemmas.Bool.{and_parts, and_from, or_cases, or_left, or_right, ltb-true, lt-ltb, le-leb}
+use Rattle.std.proofs.lemmas.List.Folds.{list_all-append, list_any-append}
+use Rattle.std.proofs.lemmas.Bool.{and_parts, and_from, or_left, ltb-true, lt-ltb, le-leb}
 use Rattle.std.specs.Option.{ok_or}
 use Rattle.facts.specs.Positions.{all, unused_clear}
 use Rattle.host.specs.declared.types.Working.{Working}
@@ -20,12 +21,11 @@ use Rattle.records.specs.declared.parts.Head.{Head}
 use Rattle.records.specs.declared.parts.Guard.{Guard}
 use Rattle.book.specs.declared.draft.State.{State}
 use Rattle.book.specs.declared.draft.State.TheVariants as state
-use Rattle.book.specs.declared.part.Part.TheVariants as part
 use Rattle.rules.specs.declared.BodyFact.{BodyFact}
 use Rattle.rules.specs.declared.Rule.{Rule as RuleData}
 use Rattle.rules.specs.Rules.{Rule, rule_of, any, head_binds, bound, guard_bound, working_bound, fact_bound, parts_bound, headed, closed, head_in_range, small, blank_rule}
 use Rattle.rules.specs.Results.{and_then, told, kept_or, unless}
-use Rattle.book.specs.Drafts.{Tables, open_rule, with_part, declaring, declared, body_clear, body_fact, opened, entered, follows, is_open, ended, sound, open_sound, rules_sound}
+use Rattle.book.specs.Drafts.{Tables, open_rule, with_head, with_guard, with_fact, with_fail, with_end, declaring, declared, body_clear, body_fact, opened, entered, follows, is_open, ended, sound, open_sound, rules_sound}
 use Rattle.book.proofs.Cases.{same_ok, ok_then, ok_unless, ok_some, told_ok, told_err}
 use Rattle.book.proofs.Records.{kind_of, ranged, Is, fields_is}
 use Rattle.book.proofs.States.{fact_kind_follows, begin_follows, head_follows, guard_follows, body_follows, fail_follows, end_follows, goal_follows}
@@ -33,17 +33,14 @@ use Rattle.book.proofs.States.{fact_kind_follows, begin_follows, head_follows, g
 -- Tests over lists
 
 pub all_push : {A : Type 0} (test : A → Bool) (xs : List A) (x : A) → all test xs ≡ true → test x ≡ true → all test (xs ++ x ∷ []) ≡ true
-all_push test [] x h k = and_from (test x) true k refl
-all_push test (y ∷ ys) x h k = let p = and_parts (test y) (all test ys) h in and_from (test y) (all test (ys ++ x ∷ [])) p.0 (all_push test ys x p.1 k)
+all_push test xs x h k = list_all-append test xs (x ∷ []) ∙ and_from (all test xs) (test x && true) h (and_from (test x) true k refl)
 
 all_weaker : {A : Type 0} (p q : A → Bool) (xs : List A) → ((x : A) → p x ≡ true → q x ≡ true) → all p xs ≡ true → all q xs ≡ true
 all_weaker p q [] w h = refl
 all_weaker p q (x ∷ xs) w h = let k = and_parts (p x) (all p xs) h in and_from (q x) (all q xs) (w x k.0) (all_weaker p q xs w k.1)
 
 any_longer : {A : Type 0} (test : A → Bool) (xs ys : List A) → any test xs ≡ true → any test (xs ++ ys) ≡ true
-any_longer test [] ys h = absurd (let z : ◌≡◌ {A = ℕ} 0 1 = cc in omega arith)
-any_longer test (x ∷ xs) ys h =
-    ⊎_elim (or_left (test x) (any test (xs ++ ys))) (λ k. or_right (test x) (any test (xs ++ ys)) (any_longer test xs ys k)) (or_cases (test x) (any test xs) h)
+any_longer test xs ys h = list_any-append test xs ys ∙ or_left (any test xs) (any test ys) h
 
 -- A head more: what was bound stays bound
 
@@ -106,7 +103,7 @@ module _ (r q : Rule) where
       let v = and_parts (all (guard_bound hs) r.guards) (all (fact_bound hs) r.facts) w.0 in
       (v.0, (v.1, w.1))
 
-  head_step : (h : Head) → head_in_range h ≡ true → with_part (part.Head h) r ≡ Ok q → begun r ≡ true → Well q
+  head_step : (h : Head) → head_in_range h ≡ true → with_head h r ≡ Ok q → begun r ≡ true → Well q
   head_step h i e k =
       let p = ok_unless (ltb (length hs) 4) fault.TooMany (Ok (more r (hs ++ h ∷ []) r.guards r.facts)) q e in
       let n : 0 < length (hs ++ h ∷ []) = simp length_push (omega arith) in
@@ -119,7 +116,7 @@ module _ (r q : Rule) where
       (and_from (parts_bound (more r (hs ++ h ∷ []) r.guards r.facts)) _ (parts_more hs h r.guards r.facts w.0)
       (and_from (leb (length (hs ++ h ∷ [])) 4) _ (le-leb _ 4 m) (all_push head_in_range hs h s.1 i))))
 
-  guard_step : (g : Guard) → with_part (part.Guard g) r ≡ Ok q → Well r → Well q
+  guard_step : (g : Guard) → with_guard g r ≡ Ok q → Well r → Well q
   guard_step g e k =
       let grown : Rule = more r hs (r.guards ++ g ∷ []) r.facts in
       let p = ok_unless (guard_bound hs g) fault.Unbound (and_then (unless (ltb (length r.guards) 8) fault.TooMany) (λ _. Ok grown)) q e in
@@ -128,7 +125,7 @@ module _ (r q : Rule) where
       let w = begun_parts h.1 in
       subst Well (same_ok n.1) (well_from grown h.0 (all_push (guard_bound hs) r.guards g w.0 p.0) w.1.0 w.1.1)
 
-  fact_step : (f : BodyFact) → with_part (part.Fact f) r ≡ Ok q → Well r → Well q
+  fact_step : (f : BodyFact) → with_fact f r ≡ Ok q → Well r → Well q
   fact_step f e k =
       let grown : Rule = more r hs r.guards (r.facts ++ f ∷ []) in
       let p = ok_unless (fact_bound hs f) fault.Unbound (and_then (unless (ltb (length r.facts) 4) fault.TooMany) (λ _. Ok grown)) q e in
@@ -137,10 +134,10 @@ module _ (r q : Rule) where
       let w = begun_parts h.1 in
       subst Well (same_ok n.1) (well_from grown h.0 w.0 (all_push (fact_bound hs) r.facts f w.1.0 p.0) w.1.1)
 
-  fail_step : with_part part.Fail r ≡ Ok q → Well r → Well q
+  fail_step : with_fail r ≡ Ok q → Well r → Well q
   fail_step e k = subst Well (same_ok e) k
 
-  end_step : (b : ℕ) (o : Operand) → with_part (part.End b o) r ≡ Ok q → Well r → sound q ≡ true
+  end_step : (b : ℕ) (o : Operand) → with_end b o r ≡ Ok q → Well r → sound q ≡ true
   end_step b o e k =
       let done : Rule = record { heads = hs; guards = r.guards; facts = r.facts; fails = r.fails; band = b; rank = o } in
       let p = ok_unless (bound hs o) fault.Unbound (Ok done) q e in
@@ -226,27 +223,27 @@ module _ (a b : Tables) where
       fact_kind_follows Keeps t s f (λ h. subst (λ (rs : List Rule). (all sound rs && true) ≡ true) (ap (λ (t : Tables). t.rules) (same_ok p.1.1)) h)
   entered_keeps record_of.RuleBegins s t i f e = begin_follows Keeps t s f (begin_keeps e)
   entered_keeps (record_of.Head h) s t i f e =
-      let put : Result Tables Fault = opened a (with_part (part.Head h)) in
+      let put : Result Tables Fault = opened a (with_head h) in
       let p = ok_then (declared a.kinds h.kind) (λ n. and_then (unless (unused_clear operand_blank n h.operands) fault.UnusedFilled) (λ _. put)) b e in
       let o = ok_unless (unused_clear operand_blank p.0 h.operands) fault.UnusedFilled put b p.1.1 in
       head_follows Keeps t s f
-      (λ k. change_open (with_part (part.Head h)) begun a b o.1 k well (λ r q. head_step r q h i))
-      (λ k. change_open (with_part (part.Head h)) well a b o.1 k well (λ r q d w. head_step r q h i d (well_begun r w)))
+      (λ k. change_open (with_head h) begun a b o.1 k well (λ r q. head_step r q h i))
+      (λ k. change_open (with_head h) well a b o.1 k well (λ r q d w. head_step r q h i d (well_begun r w)))
   entered_keeps (record_of.Guard g) s t i f e =
-      let c : Stays = λ k. change_open (with_part (part.Guard g)) well a b e k well (λ r q. guard_step r q g) in
+      let c : Stays = λ k. change_open (with_guard g) well a b e k well (λ r q. guard_step r q g) in
       guard_follows Keeps t s f c c
   entered_keeps (record_of.BodyFact d) s t i f e =
-      let put : ℕ → Result Tables Fault = λ n. opened a (with_part (part.Fact (body_fact n d))) in
+      let put : ℕ → Result Tables Fault = λ n. opened a (with_fact (body_fact n d)) in
       let p = ok_then (declared a.kinds d.kind) (λ n. and_then (unless (body_clear n d.workings) fault.UnusedFilled) (λ _. put n)) b e in
       let o = ok_unless (body_clear p.0 d.workings) fault.UnusedFilled (put p.0) b p.1.1 in
-      let c : Stays = λ k. change_open (with_part (part.Fact (body_fact p.0 d))) well a b o.1 k well (λ r q. fact_step r q (body_fact p.0 d)) in
+      let c : Stays = λ k. change_open (with_fact (body_fact p.0 d)) well a b o.1 k well (λ r q. fact_step r q (body_fact p.0 d)) in
       body_follows Keeps t s f c c c
   entered_keeps record_of.Fail s t i f e =
-      let c : Stays = λ k. change_open (with_part part.Fail) well a b e k well fail_step in
+      let c : Stays = λ k. change_open with_fail well a b e k well fail_step in
       fail_follows Keeps t s f c c
   entered_keeps (record_of.RuleEnds n o) s t i f e =
       let c : (all sound (before a.rules) && well (open_rule a.rules)) ≡ true → (all sound b.rules && true) ≡ true =
-      λ k. change_end (with_part (part.End n o)) well a b e k (λ r q. end_step r q n o) in
+      λ k. change_end (with_end n o) well a b e k (λ r q. end_step r q n o) in
       end_follows Keeps t s f c c c c
   entered_keeps (record_of.GoalFact g) s t i f e = goal_follows Keeps t s f
 

@@ -2,7 +2,8 @@
 --     Tables, Draft           kinds and rules; with the state, which record came last
 --     follows s k             the state after a record of kind k, if it may follow in state s
 --     entered t r             the tables with the record r in them, or the fault
---     with_part p r           the rule r with the part p put into it, or the fault
+--     with_head h r           the rule r with the head h put into it, or the fault; with_guard,
+--                             with_fact, with_fail and with_end, the same of what else goes into it
 --     opened t f              the tables with the open rule changed by f, or the fault
 --     fresh                   the draft that has taken no record
 --     taking d bs             the kind of the record that the bytes bs begin with, and the draft
@@ -14,10 +15,9 @@
 use Rattle.std.specs.Prelude.{ℕ, ◌-◌, Bool, true, false, cond, ◌&&◌, List, [], ◌∷◌, ◌++◌, length, take, replicate, pos, is_some, Some, None, Ok, Err, Option, Result, nat_lt, slice_index_or, slice_set}
 use Rattle.std.specs.Option.{ok_or}
 use Rattle.facts.specs.Positions.{all, unused_clear}
-use Rattle.host.specs.declared.types.Working.{Working}
-use Rattle.host.specs.declared.types.Working.TheVariants as working
 use Rattle.records.specs.Blanks.{operand_blank, working_blank}
 use Rattle.records.specs.Bytes.{begun, fields}
+use Rattle.records.specs.Workings.{working_of}
 use Rattle.records.specs.declared.fault.Fault.{Fault}
 use Rattle.records.specs.declared.fault.Fault.TheVariants as fault
 use Rattle.records.specs.declared.kinds.RecordKind.{RecordKind}
@@ -34,8 +34,6 @@ use Rattle.records.specs.declared.parts.WorkingField.{WorkingField}
 use Rattle.records.specs.declared.parts.BodyField.{BodyField}
 use Rattle.book.specs.declared.draft.State.{State}
 use Rattle.book.specs.declared.draft.State.TheVariants as state
-use Rattle.book.specs.declared.part.Part.{Part}
-use Rattle.book.specs.declared.part.Part.TheVariants as part
 use Rattle.rules.specs.declared.BodyFact.{BodyFact}
 use Rattle.rules.specs.Results.{and_then, unless}
 use Rattle.rules.specs.Rules.{Rule, arity_of, blank_rule, bound, guard_bound, fact_bound, parts_bound, headed, closed, small}
@@ -138,13 +136,6 @@ with_end b o r =
     and_then (unless (bound r.heads o) fault.Unbound) (λ _.
     Ok (record { heads = r.heads; guards = r.guards; facts = r.facts; fails = r.fails; band = b; rank = o }))
 
-abbrev pub with_part : Part → Rule → Result Rule Fault
-with_part (part.Head h) r = with_head h r
-with_part (part.Guard g) r = with_guard g r
-with_part (part.Fact f) r = with_fact f r
-with_part part.Fail r = with_fail r
-with_part (part.End b o) r = with_end b o r
-
 -- Body facts: a copy's second operand is unused, and so is each working at or above the arity
 
 abbrev pub copy_clear : Operation → Operand → Bool
@@ -157,14 +148,6 @@ field_clear w = copy_clear w.operation w.second
 
 abbrev pub body_clear : ℕ → List WorkingField → Bool
 body_clear a ws = unused_clear working_blank a ws && all field_clear ws
-
-abbrev pub worked : Operation → Operand → Operand → Working Operand
-worked operation.Copy a b = working.Copy a
-worked operation.Sum a b = working.Sum a b
-worked operation.Difference a b = working.Difference a b
-
-abbrev pub working_of : WorkingField → Working Operand
-working_of w = worked w.operation w.first w.second
 
 abbrev pub body_fact : ℕ → BodyField → BodyFact
 body_fact a f = record {
@@ -201,14 +184,14 @@ entered t record_of.RuleBegins =
 entered t (record_of.Head h) =
     and_then (declared t.kinds h.kind) (λ a.
     and_then (unless (unused_clear operand_blank a h.operands) fault.UnusedFilled) (λ _.
-    opened t (with_part (part.Head h))))
-entered t (record_of.Guard g) = opened t (with_part (part.Guard g))
+    opened t (with_head h)))
+entered t (record_of.Guard g) = opened t (with_guard g)
 entered t (record_of.BodyFact f) =
     and_then (declared t.kinds f.kind) (λ a.
     and_then (unless (body_clear a f.workings) fault.UnusedFilled) (λ _.
-    opened t (with_part (part.Fact (body_fact a f)))))
-entered t record_of.Fail = opened t (with_part part.Fail)
-entered t (record_of.RuleEnds b o) = opened t (with_part (part.End b o))
+    opened t (with_fact (body_fact a f))))
+entered t record_of.Fail = opened t with_fail
+entered t (record_of.RuleEnds b o) = opened t (with_end b o)
 entered t (record_of.GoalFact g) = Err fault.MayNotFollow
 
 -- The draft

@@ -2,12 +2,16 @@
 --     tables_of t        the kinds and rules in the data t
 --     draft_of d         the draft in the data d
 --     with_last t r      the data t with r for its last rule
-use Rattle.std.specs.Prelude.{◌-◌, map, vec_items, vec_len}
+--     Steps gives f      what gives says of a rule, an answer and the rule then is what f does; where
+--                        f is a fault, the rule stays as it is
+use Rattle.std.specs.Prelude.{◌-◌, Result, map, vec_items, vec_len}
 use Rattle.std.specs.Vec.{with_item}
+use Rattle.records.specs.declared.fault.Fault.{Fault}
 use Rattle.book.specs.declared.draft.Draft.{Draft as DraftData}
 use Rattle.book.specs.declared.draft.Tables.{Tables as TablesData}
 use Rattle.rules.specs.declared.Rule.{Rule as RuleData}
-use Rattle.rules.specs.Rules.{rule_of}
+use Rattle.rules.specs.Results.{Done}
+use Rattle.rules.specs.Rules.{Rule, rule_of}
 use Rattle.book.specs.Drafts.{Draft, Tables}
 
 abbrev pub tables_of : TablesData → Tables
@@ -23,3 +27,6 @@ with_last t r = record {
   few = t.few;
   room = t.room;
 }
+
+abbrev pub Steps : (RuleData → Result (Unit {0}) Fault → RuleData → Type 0) → (Rule → Result Rule Fault) → Type 0
+Steps gives f = (old new : RuleData) (r : Result (Unit {0}) Fault) → gives old r new → Done (f (rule_of old)) (rule_of old) r (rule_of new)

@@ -13,7 +13,7 @@ mod lends;
 pub const MOST_RULES: usize = 64;
 
 /// Which record a draft took last, as far as it decides what may follow.
-#[derive(Clone, Copy)]
+#[derive(Clone, Copy, PartialEq, Eq, Debug)]
 pub enum State {
     Between,
     Begun,

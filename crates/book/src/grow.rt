@@ -1,10 +1,9 @@
 ghost use Rattle.std.specs.Prelude.{◌≡◌};
 ghost use Rattle.rules.specs.Rules.{rule_of, blank_rule};
-ghost use Rattle.rules.specs.Results.{told, kept_or};
-ghost use Rattle.book.specs.Drafts.{with_head, with_guard, with_fact, with_fail, with_end, with_part};
+ghost use Rattle.rules.specs.Results.{Done};
+ghost use Rattle.book.specs.Drafts.{with_head, with_guard, with_fact, with_fail, with_end};
 
 use crate::binds::{bound, fact_bound, guard_bound};
-use crate::part::Part;
 use few::Few;
 use host::types::{Comparator, Working};
 use records::fault::Fault;
@@ -39,72 +38,47 @@ pub(crate) fn blank_rule() -> Rule
     }
 }
 
-/// Puts a part into the rule.
-pub(crate) fn add(rule: &mut Rule, part: Part) -> Result<(), Fault>
-    ensures value { result ≡ told (with_part part (rule_of rule.old)) }
-    ensures after { rule_of rule.new ≡ kept_or (with_part part (rule_of rule.old)) (rule_of rule.old) }
+/// One head more; refused where there are four.
+pub(crate) fn add_head(rule: &mut Rule, head: Head) -> Result<(), Fault>
+    ensures done { Done (with_head head (rule_of rule.old)) (rule_of rule.old) result (rule_of rule.new) }
 {
-    match part {
-        Part::Head(head) => add_head(rule, head),
-        Part::Guard(guard) => add_guard(rule, guard),
-        Part::Fact(fact) => add_fact(rule, fact),
-        Part::Fail => set_fails(rule),
-        Part::End { band, rank } => end(rule, band, rank),
-    }
+    rule.heads.push(head)?;
+    Ok(())
 }
 
-// One head more; refused where there are four.
-fn add_head(rule: &mut Rule, head: Head) -> Result<(), Fault>
-    ensures value { result ≡ told (with_head head (rule_of rule.old)) }
-    ensures after { rule_of rule.new ≡ kept_or (with_head head (rule_of rule.old)) (rule_of rule.old) }
-{
-    match rule.heads.push(head) {
-        Ok(()) => Ok(()),
-        Err(_) => Err(Fault::TooMany),
-    }
-}
-
-// One guard more; refused where a variable is not bound, or where there are eight.
-fn add_guard(rule: &mut Rule, guard: Guard) -> Result<(), Fault>
-    ensures value { result ≡ told (with_guard guard (rule_of rule.old)) }
-    ensures after { rule_of rule.new ≡ kept_or (with_guard guard (rule_of rule.old)) (rule_of rule.old) }
+/// One guard more; refused where a variable is not bound, or where there are eight.
+pub(crate) fn add_guard(rule: &mut Rule, guard: Guard) -> Result<(), Fault>
+    ensures done { Done (with_guard guard (rule_of rule.old)) (rule_of rule.old) result (rule_of rule.new) }
 {
     if !guard_bound(rule.heads.as_slice(), guard) {
         return Err(Fault::Unbound);
     }
-    match rule.guards.push(guard) {
-        Ok(()) => Ok(()),
-        Err(_) => Err(Fault::TooMany),
-    }
+    rule.guards.push(guard)?;
+    Ok(())
 }
 
-// One body fact more; refused where a variable is not bound, or where there are four.
-fn add_fact(rule: &mut Rule, fact: BodyFact) -> Result<(), Fault>
-    ensures value { result ≡ told (with_fact fact (rule_of rule.old)) }
-    ensures after { rule_of rule.new ≡ kept_or (with_fact fact (rule_of rule.old)) (rule_of rule.old) }
+/// One body fact more; refused where a variable is not bound, or where there are four.
+pub(crate) fn add_fact(rule: &mut Rule, fact: BodyFact) -> Result<(), Fault>
+    ensures done { Done (with_fact fact (rule_of rule.old)) (rule_of rule.old) result (rule_of rule.new) }
 {
     if !fact_bound(rule.heads.as_slice(), fact) {
         return Err(Fault::Unbound);
     }
-    match rule.facts.push(fact) {
-        Ok(()) => Ok(()),
-        Err(_) => Err(Fault::TooMany),
-    }
+    rule.facts.push(fact)?;
+    Ok(())
 }
 
-// The rule fails the run instead of writing.
-fn set_fails(rule: &mut Rule) -> Result<(), Fault>
-    ensures value { result ≡ told (with_fail (rule_of rule.old)) }
-    ensures after { rule_of rule.new ≡ kept_or (with_fail (rule_of rule.old)) (rule_of rule.old) }
+/// The rule fails the run instead of writing.
+pub(crate) fn set_fails(rule: &mut Rule) -> Result<(), Fault>
+    ensures done { Done (with_fail (rule_of rule.old)) (rule_of rule.old) result (rule_of rule.new) }
 {
     rule.fails = true;
     Ok(())
 }
 
-// The rule has ended; refused where the variable of its rank is not bound.
-fn end(rule: &mut Rule, band: u8, rank: Operand) -> Result<(), Fault>
-    ensures value { result ≡ told (with_end band rank (rule_of rule.old)) }
-    ensures after { rule_of rule.new ≡ kept_or (with_end band rank (rule_of rule.old)) (rule_of rule.old) }
+/// The rule has ended; refused where the variable of its rank is not bound.
+pub(crate) fn end(rule: &mut Rule, band: u8, rank: Operand) -> Result<(), Fault>
+    ensures done { Done (with_end band rank (rule_of rule.old)) (rule_of rule.old) result (rule_of rule.new) }
 {
     if !bound(rule.heads.as_slice(), rank) {
         return Err(Fault::Unbound);

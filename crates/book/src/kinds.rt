@@ -1,6 +1,6 @@
 ghost use Rattle.std.specs.Prelude.{◌≡◌, length, replicate, None};
 ghost use Rattle.rules.specs.Rules.{arity_of};
-ghost use Rattle.rules.specs.Results.{told, kept_or};
+ghost use Rattle.rules.specs.Results.{Done};
 ghost use Rattle.book.specs.Drafts.{declaring};
 
 use facts::Kind;
@@ -27,17 +27,14 @@ impl Kinds {
     pub fn arity(&self, kind: Kind) -> Option<u8>
         ensures value { result ≡ arity_of self.now.arities kind }
     {
-        match self.arities.get(kind as usize) {
-            Some(arity) => *arity,
-            None => None,
-        }
+        self.arities.get(kind as usize).copied().flatten()
     }
 
     /// Declares a kind; refused where it was declared before.
     pub fn declare(&mut self, kind: Kind, arity: u8) -> Result<(), Fault>
-        ensures value { result ≡ told (declaring self.old.arities kind arity) }
-        ensures after { self.new.arities ≡ kept_or (declaring self.old.arities kind arity) self.old.arities }
+        ensures done { Done (declaring self.old.arities kind arity) self.old.arities result self.new.arities }
     {
+        // Kept as a test and an index: of an array `get_mut` says how long it stays, and nothing of its items.
         if kind as usize >= self.arities.len() {
             return Err(Fault::OutOfRange);
         }

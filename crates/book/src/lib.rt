@@ -12,4 +12,3 @@ pub mod book;
 pub mod draft;
 mod grow;
 pub mod kinds;
-mod part;

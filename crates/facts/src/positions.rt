@@ -25,20 +25,5 @@ impl Position for Value {
 pub fn unused_clear<P: Position>(arity: u8, positions: &[P]) -> bool
     ensures value { result ≡ unused_clear P.Position.blank arity positions.now }
 {
-    let used = arity as usize;
-    if used >= positions.len() {
-        return true;
-    }
-    all_blank(&positions[used..])
-}
-
-fn all_blank<P: Position>(positions: &[P]) -> bool
-    ensures value { result ≡ all P.Position.blank positions.now }
-{
-    for position in positions {
-        if !position.is_blank() {
-            return false;
-        }
-    }
-    true
+    positions.iter().skip(usize::from(arity)).all(P::is_blank)
 }

@@ -2,13 +2,15 @@
 //! for want of a place. It means the list of its items (`listed`).
 //!
 //! Not for long or growing lists: that is `Vec`. Nothing stands below; rules hold their heads,
-//! guards and body facts in it.
+//! guards and body facts in it, firings the facts that they write, and a search its levels.
 #![tactic(auto)]
 
 ghost use Rattle.std.specs.Prelude.{◌≡◌, ◌≤◌, length};
 
 mod methods;
 
+/// A list of at most N items, in the order in which they were added.
+// Kept as an array with a count: no heap, and the kit's list in place wants a `Default` of each of its items.
 #[derive(Drop)]
 pub struct Few<T, const N: usize> {
     items: [T; N],
@@ -18,5 +20,5 @@ pub struct Few<T, const N: usize> {
 }
 
 /// All places are taken.
-#[derive(Clone, Copy)]
+#[derive(Clone, Copy, PartialEq, Eq, Debug)]
 pub struct Full;

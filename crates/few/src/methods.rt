@@ -1,4 +1,5 @@
-ghost use Rattle.std.specs.Prelude.{◌≡◌, [], ◌∷◌, ◌++◌, length, is_ok, if◌then◌else◌, nat_lt};
+ghost use Rattle.std.specs.Prelude.{◌≡◌, ◌↔◌, ◌<◌, [], ◌∷◌, ◌++◌, length, is_ok, if◌then◌else◌, nat_lt, IsSome};
+ghost use Rattle.std.specs.Option.{option_to_list};
 ghost use Rattle.few.specs.Few.{listed};
 
 use crate::{Few, Full};
@@ -25,8 +26,7 @@ impl<T: Copy, const N: usize> Few<T, N> {
     pub fn as_slice(&self) -> &[T]
         ensures value { result.now ≡ listed self.now }
     {
-        let all = &self.items[..];
-        &all[0..self.len]
+        &self.items[..self.len]
     }
 
     /// One item more, at the end; refused exactly when there are N.
@@ -37,9 +37,17 @@ impl<T: Copy, const N: usize> Few<T, N> {
         if self.len >= N {
             return Err(Full);
         }
-        let at = self.len;
-        self.items[at] = x;
-        self.len = at + 1;
+        self.items[self.len] = x;
+        self.len += 1;
         Ok(())
+    }
+
+    /// Takes the last item off and gives it, or says that there is none.
+    pub fn pop(&mut self) -> Option<T>
+        ensures items { listed self.old ≡ listed self.new ++ option_to_list result }
+        ensures variant { IsSome result ↔ (0 < length (listed self.old)) }
+    {
+        self.len = self.len.checked_sub(1)?;
+        Some(self.items[self.len])
     }
 }

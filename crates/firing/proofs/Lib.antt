@@ -1,4 +1,3 @@
 pub mod Bodies
 pub mod Paired
 pub mod Rooms
-pub mod Refused

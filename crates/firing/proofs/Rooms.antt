@@ -1,7 +1,6 @@
 -- Writing a body: there is room for each fact in its turn.
-use Rattle.std.proofs.Common.{◌≡◌, ℕ, suc, ◌+◌, ◌<◌, ◌≤◌, true, false, List, [], ◌∷◌, ◌++◌, length, get_or, drop, sym, ap, ◌∙◌, subst, append_assoc, append-nil, add-one, arith}
-use Rattle.std.proofs.lemmas.List.{drop_more, at_drop_more, at_drop_all, length_push}
-use Rattle.std.proofs.lemmas.Bool.{lt-ltb}
+use Rattle.std.proofs.Common.{◌≡◌, ℕ, suc, ◌+◌, ◌<◌, true, List, [], ◌∷◌, ◌++◌, length, get_or, drop, sym, ap, ◌∙◌, subst, append_assoc, add-one, arith}
+use Rattle.std.proofs.lemmas.List.{drop_more, at_drop_more, length_push}
 use Rattle.facts.specs.declared.Fact.{Fact}
 use Rattle.store.specs.Store.{Added}
 use Rattle.store.specs.Rises.{above_higher, above_push}
@@ -24,16 +23,6 @@ module _ (fs : List Fact) (rows n : ℕ) (ws : List Written) (i : ℕ) (d : Writ
   next_room : Room fs rows n (get_or ws i d ∷ drop (i + 1) ws)
   next_room = subst (Room fs rows n) (drop_more ws i d l) r
 
-  pub never_full : (gs : List Fact) → Added (numbered n (get_or ws i d)) fs rows false gs → ⊥
-  never_full gs a =
-      let h = next_room.free in
-      let b : length fs < rows = omega arith in
-      let e = a.value next_room.above ∙ lt-ltb (length fs) rows b in
-      let z : ◌≡◌ {A = ℕ} 0 1 = cc in omega arith
-
-  pub never_last : (n + 1 < 4294967296 → ⊥) → ⊥
-  never_last over = let h = next_room.ids in over (omega arith)
-
   pub write_room : (gs : List Fact) (after : ℕ) → Added (numbered n (get_or ws i d)) fs rows true gs → after ≡ n + 1 → Room gs rows after (drop (i + 1) ws)
   write_room gs after a e =
       subst (λ x. Room x rows after (drop (i + 1) ws)) (sym a.live)
@@ -46,6 +35,3 @@ module _ (fs : List Fact) (rows n : ℕ) (ws : List Written) (i : ℕ) (d : Writ
       ∙ ap (λ m. (fs ++ numbered n (get_or ws i d) ∷ []) ++ numbered_from m (drop (i + 1) ws)) (e ∙ add-one n)
       ∙ append_assoc fs (numbered n (get_or ws i d) ∷ []) (numbered_from (suc n) (drop (i + 1) ws))
       ∙ sym (at_drop_more (λ xs. fs ++ numbered_from n xs) ws i d l)
-
-pub write_all : (fs : List Fact) (n : ℕ) (ws : List Written) (i : ℕ) → length ws ≤ i → fs ++ numbered_from n (drop i ws) ≡ fs
-write_all fs n ws i l = at_drop_all (λ xs. fs ++ numbered_from n xs) ws i l ∙ append-nil fs

@@ -1,3 +1,4 @@
 pub mod Faults
 pub mod Body
 pub mod Room
+pub mod Changes

@@ -1,15 +1,11 @@
 -- Where body facts go. Assumes nothing.
---     blank_written            what stands past the end of a list of body facts
 --     numbered n w             the fact w under the id n
 --     After n r                r is the id after n, or none where there is none
 --     Room live rows next ws   next is above every live id, and there are rows and ids for the facts ws
-use Rattle.std.specs.Prelude.{◌≡◌, ℕ, ◌+◌, ◌<◌, ◌≤◌, List, [], length, Some, None, Option}
+use Rattle.std.specs.Prelude.{◌≡◌, ℕ, ◌+◌, ◌<◌, ◌≤◌, List, length, Some, None, Option}
 use Rattle.facts.specs.declared.Fact.{Fact}
 use Rattle.store.specs.Store.{Above}
 use Rattle.meaning.specs.declared.written.Written.{Written}
-
-abbrev pub blank_written : Written
-blank_written = record { kind = 0; values = [] }
 
 abbrev pub numbered : ℕ → Written → Fact
 numbered n w = record { id = n; kind = w.kind; values = w.values }

@@ -13,11 +13,9 @@ pub fn bindings<S: Store>(store: &S, heads: &[Head], ids: [Id; 4]) -> Env
     ensures value { S.Store.sound store.now → result ≡ bindings (S.Store.live store.now) heads.now ids unbound }
 {
     let mut env = UNBOUND;
-    for i in 0..heads.len() {
-        if i >= ids.len() {
-            return env;
-        }
-        let bound = bound_to(store, heads[i], ids[i], env);
+    for (head, id) in heads.iter().zip(&ids) {
+        // Kept as two steps: that an array is laid straight into `env` is not covered by the check.
+        let bound = bound_to(store, *head, *id, env);
         env = bound;
     }
     env
@@ -27,8 +25,8 @@ pub fn bindings<S: Store>(store: &S, heads: &[Head], ids: [Id; 4]) -> Env
 fn bound_to<S: Store>(store: &S, head: Head, id: Id, env: Env) -> Env
     ensures value { S.Store.sound store.now → result ≡ bound_to head (find id (S.Store.live store.now)) env }
 {
-    match store.read(id) {
-        Some(fact) => agreed(head.operands, fact.values, env).unwrap_or(env),
-        None => env,
-    }
+    store
+        .read(id)
+        .and_then(|fact| agreed(head.operands, fact.values, env))
+        .unwrap_or(env)
 }

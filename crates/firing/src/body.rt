@@ -1,6 +1,6 @@
-ghost use Rattle.std.specs.Prelude.{◌≡◌, ◌+◌, ◌<◌, ◌≤◌, length, slice_index_or};
+ghost use Rattle.std.specs.Prelude.{◌≡◌, ◌+◌, ◌≤◌, length};
 ghost use Rattle.meaning.specs.Firing.{put, written, body_of};
-ghost use Rattle.firing.specs.Body.{blank_fact, value_at, three_values, listed_or};
+ghost use Rattle.firing.specs.Body.{value_at, listed_or};
 
 use crate::faults::with_place;
 use facts::Value;
@@ -13,15 +13,14 @@ use meaning::written::Written;
 use records::parts::Operand;
 use rules::BodyFact;
 
-// How many facts a body has at most.
-const BODY_FACTS: usize = 4;
-
-const BLANK: Written = Written {
+/// A blank fact, for the places of a body that is not worked out yet.
+pub const BLANK: Written = Written {
     kind: 0,
     values: [0; 3],
 };
 
 /// The body facts in their order, worked out, or the first fault.
+// Kept as parameters, here and below: the definitions take the host's answers and the bindings one by one.
 pub fn body<H: Host>(
     host: &H,
     env: Env,
@@ -30,11 +29,8 @@ pub fn body<H: Host>(
     ensures value { length facts.now ≤ 4 → listed_or result ≡ body_of (H.Host.works host.now) env facts.now 1 }
 {
     let mut done = Few::none(BLANK);
-    for i in 0..facts.len() {
-        if i >= BODY_FACTS {
-            return Ok(done);
-        }
-        let one = at_place(host, env, facts, i)?;
+    for (place, fact) in facts.iter().enumerate() {
+        let one = worked_out(host, env, *fact, number_at(place))?;
         let Ok(()) = done.push(one) else {
             return Ok(done);
         };
@@ -42,21 +38,15 @@ pub fn body<H: Host>(
     Ok(done)
 }
 
-// The body fact at a place, worked out; facts are numbered from 1.
-fn at_place<H: Host>(
-    host: &H,
-    env: Env,
-    facts: &[BodyFact],
-    i: usize,
-) -> Result<Written, WorkingFault>
-    requires place { i < length facts.now }
-    requires few { i < 4 }
-    ensures value { result ≡ written (H.Host.works host.now) env (slice_index_or facts.now i blank_fact) (i + 1) }
+// The number of the body fact at a place: facts are numbered from 1.
+fn number_at(place: usize) -> u8
+    requires few { place ≤ 4 }
+    ensures value { result ≡ place + 1 }
 {
-    worked_out(host, env, facts[i], i as u8 + 1)
+    place as u8 + 1
 }
 
-/// A body fact of a number, worked out, or its first fault.
+/// A body fact of a number, worked out position by position, or its first fault.
 pub fn worked_out<H: Host>(
     host: &H,
     env: Env,
@@ -65,18 +55,7 @@ pub fn worked_out<H: Host>(
 ) -> Result<Written, WorkingFault>
     ensures value { result ≡ written (H.Host.works host.now) env fact number }
 {
-    in_order(host, env, fact, number)
-}
-
-// The three positions one after the other.
-fn in_order<H: Host>(
-    host: &H,
-    env: Env,
-    fact: BodyFact,
-    number: u8,
-) -> Result<Written, WorkingFault>
-    ensures value { result ≡ three_values (H.Host.works host.now) env fact number }
-{
+    // Kept as three calls: a loop would number the positions and write the values by index, no plainer.
     let first = value_at(host, env, fact.arity, number, 1, fact.workings[0])?;
     let second = value_at(host, env, fact.arity, number, 2, fact.workings[1])?;
     let third = value_at(host, env, fact.arity, number, 3, fact.workings[2])?;
@@ -100,17 +79,12 @@ fn value_at<H: Host>(
     if arity < place {
         return Ok(0);
     }
-    let worked = with_place(number, place, host.work(put(env, working)))?;
-    Ok(worked)
+    Ok(with_place(number, place, host.work(put(env, working)))?)
 }
 
 // A working with its operands' numbers.
 fn put(env: Env, working: Working<Operand>) -> Working<Value>
     ensures value { result ≡ put env working }
 {
-    match working {
-        Working::Copy(a) => Working::Copy(worth(env, a)),
-        Working::Sum(a, b) => Working::Sum(worth(env, a), worth(env, b)),
-        Working::Difference(a, b) => Working::Difference(worth(env, a), worth(env, b)),
-    }
+    working.map(|operand| worth(env, operand))
 }

@@ -5,6 +5,7 @@ use host::types::Cause;
 use meaning::refusal::{Refusal, WorkingFault};
 
 /// A fault with its place: which working of which body fact, counted from 1.
+// Kept as a type of its own, a required form: by `From` the host's fault becomes the working's.
 #[derive(Clone, Copy)]
 pub struct At<F> {
     pub fact: u8,
@@ -13,6 +14,7 @@ pub struct At<F> {
 }
 
 /// The fault of a body with the number of its rule.
+// Kept as a type of its own, a required form: by `From` the working's fault becomes the run's.
 #[derive(Clone, Copy)]
 pub struct OfRule {
     pub rule: u8,
@@ -23,24 +25,18 @@ pub struct OfRule {
 pub fn with_place<T, F>(fact: u8, working: u8, r: Result<T, F>) -> Result<T, At<F>>
     ensures value { result ≡ with_place fact working r }
 {
-    match r {
-        Ok(value) => Ok(value),
-        Err(fault) => Err(At {
-            fact,
-            working,
-            fault,
-        }),
-    }
+    r.map_err(|fault| At {
+        fact,
+        working,
+        fault,
+    })
 }
 
 /// A result, its fault with the number of its rule.
 pub fn of_rule<T>(rule: u8, r: Result<T, WorkingFault>) -> Result<T, OfRule>
     ensures value { result ≡ in_rule rule r }
 {
-    match r {
-        Ok(value) => Ok(value),
-        Err(fault) => Err(OfRule { rule, fault }),
-    }
+    r.map_err(|fault| OfRule { rule, fault })
 }
 
 /// The host's cause at its place is what a working cannot be done for.

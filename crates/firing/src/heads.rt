@@ -1,6 +1,7 @@
 ghost use Rattle.std.specs.Prelude.{◌≡◌, length, if◌then◌else◌};
 ghost use Rattle.store.specs.Store.{without};
 ghost use Rattle.meaning.specs.Firing.{taken_ids, taking_off};
+ghost use Rattle.firing.specs.Changes.{Becomes};
 
 use facts::Id;
 use records::parts::Head;
@@ -10,45 +11,27 @@ use store::Store;
 pub fn taken_count(heads: &[Head], ids: [Id; 4]) -> usize
     ensures value { result ≡ length (taken_ids heads.now ids) }
 {
-    let mut count = 0;
-    for i in 0..heads.len() {
-        if i >= ids.len() {
-            return count;
-        }
-        count += takes(heads[i]);
-    }
-    count
-}
-
-// One for a head that is taken, none for one that is kept.
-fn takes(head: Head) -> usize
-    ensures value { result ≡ (if head.taken then 1 else 0) }
-{
-    if head.taken { 1 } else { 0 }
+    heads
+        .iter()
+        .zip(&ids)
+        .filter(|(head, _)| head.taken)
+        .count()
 }
 
 /// Takes the facts of the heads that are taken from the store.
 pub fn take_heads<S: Store>(store: &mut S, heads: &[Head], ids: [Id; 4])
-    ensures sound { S.Store.sound store.old → S.Store.sound store.new }
-    ensures live { S.Store.sound store.old → S.Store.live store.new ≡ taking_off (taken_ids heads.now ids) (S.Store.live store.old) }
-    ensures rows { S.Store.rows store.new ≡ S.Store.rows store.old }
+    ensures taken { Becomes S.Store store.old store.new (taking_off (taken_ids heads.now ids) (S.Store.live store.old)) }
 {
-    for i in 0..heads.len() {
-        if i >= ids.len() {
-            return;
-        }
-        take_head(store, heads[i], ids[i]);
+    for (head, id) in heads.iter().zip(&ids) {
+        take_head(store, *head, *id);
     }
 }
 
 // Takes the fact of a head that is taken; leaves that of one that is kept.
 fn take_head<S: Store>(store: &mut S, head: Head, id: Id)
-    ensures sound { S.Store.sound store.old → S.Store.sound store.new }
-    ensures live { S.Store.sound store.old → S.Store.live store.new ≡ (if head.taken then without id (S.Store.live store.old) else S.Store.live store.old) }
-    ensures rows { S.Store.rows store.new ≡ S.Store.rows store.old }
+    ensures taken { Becomes S.Store store.old store.new (if head.taken then without id (S.Store.live store.old) else S.Store.live store.old) }
 {
-    if !head.taken {
-        return;
+    if head.taken {
+        let _taken = store.take(id);
     }
-    let _taken = store.take(id);
 }

@@ -1,7 +1,8 @@
-ghost use Rattle.std.specs.Prelude.{◌≡◌, ◌<◌, ◌++◌, length, is_ok, slice_index_or};
+ghost use Rattle.std.specs.Prelude.{◌≡◌, ◌++◌, is_ok};
 ghost use Rattle.store.specs.Store.{Added};
 ghost use Rattle.meaning.specs.Firing.{numbered_from};
-ghost use Rattle.firing.specs.Room.{Room, After, blank_written, numbered};
+ghost use Rattle.firing.specs.Changes.{Changes};
+ghost use Rattle.firing.specs.Room.{Room, After, numbered};
 
 use facts::{Fact, Id};
 use meaning::written::Written;
@@ -9,13 +10,12 @@ use store::{NoRow, Store};
 
 /// Adds the facts at the end of the store, in their order, under the next ids.
 pub fn write_body<S: Store>(store: &mut S, facts: &[Written], next: Id)
-    ensures sound { S.Store.sound store.old → S.Store.sound store.new }
-    ensures live { S.Store.sound store.old → Room (S.Store.live store.old) (S.Store.rows store.old) next facts.now → S.Store.live store.new ≡ S.Store.live store.old ++ numbered_from next facts.now }
-    ensures rows { S.Store.rows store.new ≡ S.Store.rows store.old }
+    ensures written { Changes S.Store store.old store.new (λ live. Room (S.Store.live store.old) (S.Store.rows store.old) next facts.now → live ≡ S.Store.live store.old ++ numbered_from next facts.now) }
 {
+    // Kept as a counter: of `(next..=Id::MAX).zip(facts)` the goals of the loop did not close.
     let mut id = next;
-    for i in 0..facts.len() {
-        let Ok(()) = add_at(store, facts, i, id) else {
+    for fact in facts {
+        let Ok(()) = add(store, *fact, id) else {
             return;
         };
         let Some(after) = id_after(id) else {
@@ -25,20 +25,12 @@ pub fn write_body<S: Store>(store: &mut S, facts: &[Written], next: Id)
     }
 }
 
-// Adds the fact at a place at the end of the store, under an id.
-fn add_at<S: Store>(store: &mut S, facts: &[Written], i: usize, id: Id) -> Result<(), NoRow>
-    requires { i < length facts.now }
-    ensures sound { S.Store.sound store.old → S.Store.sound store.new }
-    ensures live { S.Store.sound store.old → Added (numbered id (slice_index_or facts.now i blank_written)) (S.Store.live store.old) (S.Store.rows store.old) (is_ok result) (S.Store.live store.new) }
-    ensures rows { S.Store.rows store.new ≡ S.Store.rows store.old }
+// Adds a fact at the end of the store, under an id.
+fn add<S: Store>(store: &mut S, fact: Written, id: Id) -> Result<(), NoRow>
+    ensures added { Changes S.Store store.old store.new (Added (numbered id fact) (S.Store.live store.old) (S.Store.rows store.old) (is_ok result)) }
 {
-    let fact = facts[i];
-    let values = fact.values;
-    store.add(Fact {
-        id,
-        kind: fact.kind,
-        values,
-    })
+    let Written { kind, values } = fact;
+    store.add(Fact { id, kind, values })
 }
 
 // The id after an id, if there is one.

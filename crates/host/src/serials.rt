@@ -1,5 +1,5 @@
-ghost use Rattle.std.specs.Prelude.{◌≡◌, true, ◌&&◌};
-ghost use Rattle.host.specs.Serials.{is_serial, ahead, serial_says, serial_works};
+ghost use Rattle.std.specs.Prelude.{◌≡◌, true, ◌&&◌, ◌-ℤ◌};
+ghost use Rattle.host.specs.Serials.{is_serial, modulo, ahead, serial_says, serial_works};
 ghost use Rattle.std.proofs.Common.{rules};
 
 use crate::host::Host;
@@ -18,7 +18,7 @@ const REACH: i32 = 499_999;
 fn is_serial(n: i32) -> bool
     ensures value { result ≡ is_serial n }
 {
-    0 <= n && n < ROUND
+    (0..ROUND).contains(&n)
 }
 
 fn are_serials(a: i32, b: i32) -> bool
@@ -27,13 +27,20 @@ fn are_serials(a: i32, b: i32) -> bool
     is_serial(a) && is_serial(b)
 }
 
+// How many steps on from a serial a the serial b lies.
+fn steps(a: i32, b: i32) -> i32
+    requires { (is_serial a && is_serial b) ≡ true }
+    ensures value { result ≡ modulo (b -ℤ a) }
+{
+    (b - a).rem_euclid(ROUND)
+}
+
 // Whether b comes after a, of two serials.
 fn is_ahead(a: i32, b: i32) -> bool
     requires { (is_serial a && is_serial b) ≡ true }
     ensures value { result ≡ ahead a b }
 {
-    let steps = (b - a).rem_euclid(ROUND);
-    1 <= steps && steps <= REACH
+    (1..=REACH).contains(&steps(a, b))
 }
 
 impl Host for Serials {
@@ -59,43 +66,13 @@ impl Host for Serials {
     }
 
     fn work(&self, w: Working<i32>) -> Result<i32, Cause> {
-        match w {
-            Working::Copy(a) => copied(a),
-            Working::Sum(a, b) => sum(a, b),
-            Working::Difference(a, b) => difference(a, b),
+        if !w.all(is_serial) {
+            return Err(Cause::Operand);
         }
-    }
-}
-
-// A serial as it is.
-fn copied(a: i32) -> Result<i32, Cause>
-    ensures value { result ≡ serial_works (Working.Copy a) }
-{
-    if is_serial(a) {
-        Ok(a)
-    } else {
-        Err(Cause::Operand)
-    }
-}
-
-// The sum of two serials, come round.
-fn sum(a: i32, b: i32) -> Result<i32, Cause>
-    ensures value { result ≡ serial_works (Working.Sum a b) }
-{
-    if are_serials(a, b) {
-        Ok((a + b).rem_euclid(ROUND))
-    } else {
-        Err(Cause::Operand)
-    }
-}
-
-// The difference of two serials, come round.
-fn difference(a: i32, b: i32) -> Result<i32, Cause>
-    ensures value { result ≡ serial_works (Working.Difference a b) }
-{
-    if are_serials(a, b) {
-        Ok((a - b).rem_euclid(ROUND))
-    } else {
-        Err(Cause::Operand)
+        Ok(match w {
+            Working::Copy(a) => a,
+            Working::Sum(a, b) => (a + b).rem_euclid(ROUND),
+            Working::Difference(a, b) => (a - b).rem_euclid(ROUND),
+        })
     }
 }

@@ -1,3 +1,2 @@
-pub mod Arrays
-pub mod Agreeing
+pub mod Tests
 pub mod Partners

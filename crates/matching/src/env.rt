@@ -1,4 +1,5 @@
-ghost use Rattle.std.specs.Prelude.{◌≡◌, if◌then◌else◌, Some, None, slice_index_or};
+ghost use Rattle.std.specs.Prelude.{◌≡◌, if◌then◌else◌, Some, None, is_ok, OnErr, slice_index_or};
+ghost use Rattle.host.specs.Numbers.{eqZ};
 ghost use Rattle.meaning.specs.Enumeration.{seen, agreed_one, agreed, worth};
 
 use facts::{Value, Values};
@@ -8,60 +9,61 @@ use records::parts::Operand;
 pub const VARIABLES: usize = 12;
 
 /// The number of each variable that is bound so far.
-pub type Env = [Option<Value>; 12];
+pub type Env = [Option<Value>; VARIABLES];
 
 /// No variable is bound.
-pub const UNBOUND: Env = [None; 12];
+pub const UNBOUND: Env = [None; VARIABLES];
+
+/// An operand is another number.
+#[derive(Clone, Copy, PartialEq, Eq, Debug)]
+pub struct Differs;
 
 /// The number of a variable, if it is bound.
 pub fn number_of(env: Env, variable: u8) -> Option<Value>
     ensures value { result ≡ slice_index_or env variable None }
 {
-    if variable as usize >= VARIABLES {
-        return None;
-    }
-    env[variable as usize]
+    env.get(variable as usize).copied().flatten()
 }
 
-/// Binds a variable to a number; false where it is another one already.
-pub fn bind(variable: u8, number: Value, env: &mut Env) -> bool
-    ensures value { seen (slice_index_or env.old variable None) variable number env.old ≡ (if result then Some env.new else None) }
+/// Binds a variable to a number; refused where it is another one already, and then nothing changes.
+pub fn bind(variable: u8, number: Value, env: &mut Env) -> Result<(), Differs>
+    ensures value { seen (slice_index_or env.old variable None) variable number env.old ≡ (if is_ok result then Some env.new else None) }
+    ensures refused { OnErr result (env.new ≡ env.old) }
 {
+    // Kept as a change in place: by value, as an `Option<Env>`, the depot week takes half as long again.
     let at = variable as usize;
-    if at >= VARIABLES {
-        return true;
+    if at >= env.len() {
+        return Ok(());
     }
     match env[at] {
         None => {
             env[at] = Some(number);
-            true
+            Ok(())
         }
-        Some(known) => known == number,
+        Some(known) => same(known, number),
     }
 }
 
-/// Makes an operand a number, if it can be; false where it cannot, and then the bindings are void.
-pub fn agree_one(operand: Operand, number: Value, env: &mut Env) -> bool
-    ensures value { agreed_one operand number env.old ≡ (if result then Some env.new else None) }
+/// Makes an operand a number; refused where it is another one, and then nothing changes.
+pub fn agree_one(operand: Operand, number: Value, env: &mut Env) -> Result<(), Differs>
+    ensures value { agreed_one operand number env.old ≡ (if is_ok result then Some env.new else None) }
+    ensures refused { OnErr result (env.new ≡ env.old) }
 {
     match operand {
-        Operand::Constant(known) => known == number,
+        Operand::Constant(known) => same(known, number),
         Operand::Variable(variable) => bind(variable, number, env),
     }
 }
 
-/// Makes the operands these values, one after the other; false where they cannot be, and then the
-/// bindings are void.
-pub fn agree(operands: [Operand; 3], values: Values, env: &mut Env) -> bool
-    ensures value { agreed operands values env.old ≡ (if result then Some env.new else None) }
+// Refused where two numbers differ.
+fn same(known: Value, number: Value) -> Result<(), Differs>
+    ensures value { is_ok result ≡ eqZ known number }
 {
-    if !agree_one(operands[0], values[0], env) {
-        return false;
+    if known == number {
+        Ok(())
+    } else {
+        Err(Differs)
     }
-    if !agree_one(operands[1], values[1], env) {
-        return false;
-    }
-    agree_one(operands[2], values[2], env)
 }
 
 /// The bindings in which the operands are these values, if they can be.
@@ -69,10 +71,8 @@ pub fn agreed(operands: [Operand; 3], values: Values, env: Env) -> Option<Env>
     ensures value { result ≡ agreed operands values env }
 {
     let mut bound = env;
-    for i in 0..3 {
-        if !agree_one(operands[i], values[i], &mut bound) {
-            return None;
-        }
+    for (operand, value) in operands.iter().zip(&values) {
+        agree_one(*operand, *value, &mut bound).ok()?;
     }
     Some(bound)
 }

@@ -10,6 +10,7 @@ use records::parts::Guard;
 pub fn applicable<H: Host>(host: &H, guards: &[Guard], env: Env) -> bool
     ensures value { result ≡ all (yes (H.Host.says host.now) env) guards.now }
 {
+    // Kept as a loop by index, a required form: guards go by their index while instances are sought.
     for i in 0..guards.len() {
         if !says_yes(host, guards[i], env) {
             return false;

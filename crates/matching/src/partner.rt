@@ -16,6 +16,7 @@ pub struct Partner {
 }
 
 /// The first fact from an id on that matches the head, if any.
+// Kept as parameters, here and below: the definitions take head, ids used and bindings one by one.
 pub fn next_partner<S: Store>(
     store: &S,
     head: Head,
@@ -24,9 +25,10 @@ pub fn next_partner<S: Store>(
     from: Id,
 ) -> Option<Partner>
     ensures later { Later from result }
-    ensures found { Ready S.Store.sound S.Store.live store.now → Partnered head used.now env (S.Store.live store.now) from result }
+    ensures found { Ready S.Store store.now → Partnered head used.now env (S.Store.live store.now) from result }
 {
     let mut at = from;
+    // Kept as `while let` over what `next` answers: a required form of the partner search.
     while let Some(id) = store.next(head.kind, at) {
         let after = id.checked_add(1)?;
         if let Some(bound) = matched(store, head, used, env, id) {
@@ -43,8 +45,9 @@ pub fn next_partner<S: Store>(
 
 /// The bindings with which the fact of an id matches the head, if it does.
 pub fn matched<S: Store>(store: &S, head: Head, used: &[Id], env: Env, id: Id) -> Option<Env>
-    ensures value { Ready S.Store.sound S.Store.live store.now → result ≡ matched head used.now env id (S.Store.live store.now) }
+    ensures value { Ready S.Store store.now → result ≡ matched head used.now env id (S.Store.live store.now) }
 {
+    // Kept as a match on what `read` answers: a required form of the partner search.
     match store.read(id) {
         Some(fact) => extended(head, used, env, fact),
         None => None,
@@ -68,10 +71,5 @@ pub fn extended(head: Head, used: &[Id], env: Env, fact: Fact) -> Option<Env>
 pub fn among(id: Id, used: &[Id]) -> bool
     ensures value { result ≡ among id used.now }
 {
-    for other in used {
-        if id == *other {
-            return true;
-        }
-    }
-    false
+    used.contains(&id)
 }

@@ -28,7 +28,7 @@ pub eqZ_from : (a b : ℤ) → a ≡ b → eqZ a b ≡ true
 eqZ_from a b e = subst (λ x. eqZ a x ≡ true) e (eqZ_self a)
 
 pub none_some : {A : Type 0} (x : A) → ◌≡◌ {A = Option A} None (Some x) → ⊥
-none_some x e = let z : ◌≡◌ {A = ℕ} 0 1 = cc in omega arith
+none_some x e = cc
 
 some_same : {A : Type 0} (x y : A) → ◌≡◌ {A = Option A} (Some x) (Some y) → x ≡ y
 some_same x y e = cc
@@ -186,7 +186,7 @@ cons_rest : {A : Type 0} (x y : A) (xs ys : List A) → ◌≡◌ {A = List A} (
 cons_rest x y xs ys e = cc
 
 nil_cons : {A : Type 0} (x : A) (xs : List A) → ◌≡◌ {A = List A} [] (x ∷ xs) → ⊥
-nil_cons x xs e = let z : ◌≡◌ {A = ℕ} 0 1 = cc in omega arith
+nil_cons x xs e = cc
 
 pub bound_by : (σ : ℕ → ℤ) (os : List Operand) (vs : List ℤ) (e : Env) → length e ≡ 12 → all in_range os ≡ true → Fits σ e → map (number σ) os ≡ vs → Bound σ os vs e
 bound_by σ [] [] e l r fits h =

@@ -27,11 +27,11 @@ use Rattle.meaning.proofs.PublishedCalls.{with_room, room_refused, made, failing
 -- Goals.
 
 not_nil : {A : Type 0} (xs : List A) (y : A) (ys : List A) → [] ≡ xs ++ y ∷ ys → ⊥
-not_nil [] y ys e = let z : ◌≡◌ {A = ℕ} 0 1 = cc in omega arith
-not_nil (x ∷ xs) y ys e = let z : ◌≡◌ {A = ℕ} 0 1 = cc in omega arith
+not_nil [] y ys e = cc
+not_nil (x ∷ xs) y ys e = cc
 
 not_fact : (xs : List Constraint) (c : Written) (ys : List Constraint) → fail ∷ [] ≡ xs ++ fact c ∷ ys → ⊥
-not_fact [] c ys e = let z : ◌≡◌ {A = ℕ} 0 1 = cc in omega arith
+not_fact [] c ys e = cc
 not_fact (x ∷ xs) c ys e = let q : [] ≡ xs ++ fact c ∷ ys = cc in not_nil xs (fact c) ys q
 
 -- the facts of a goal are introduced in their order
@@ -175,7 +175,7 @@ module _ {R : Type 0} (s : Setup R) where
       subst (Shaped s) (handed_in s t c.kind c.values u e)
       (λ f i. elim (in_either (Fired f) t.roll (HandedIn (handed s t c.kind c.values) ∷ []) i) [
         | inl j ↦ shaped f j
-        | inr j ↦ elim j [ inl q ↦ absurd (let z : ◌≡◌ {A = ℕ} 0 1 = cc in omega arith) | inr n ↦ absurd n ]
+        | inr j ↦ elim j [ inl q ↦ cc | inr n ↦ absurd n ]
       ])
 
   fires_shaped : (t u : State) (d : Due R) → Turn s t d → fire s t d.rule d.ids ≡ Ok u → Shaped s u

@@ -79,11 +79,11 @@ bindings_bind live σ (h ∷ hs) (f ∷ fs) zs e rising l r fits alive agree =
 
 pub passed : {A B E : Type 0} (x : Result A E) (f : A → Result B E) (y : B) → and_then x f ≡ Ok y → (a : A) × (x ≡ Ok a) × (f a ≡ Ok y)
 passed (Ok a) f y e = (a, refl, e)
-passed (Err r) f y e = absurd (let z : ◌≡◌ {A = ℕ} 0 1 = cc in omega arith)
+passed (Err r) f y e = cc
 
 placed_ok : (n k : ℕ) (x : Result ℤ Cause) (v : ℤ) → placed n k x ≡ Ok v → x ≡ Ok v
 placed_ok n k (Ok w) v e = let q : w ≡ v = cc in ap Ok q
-placed_ok n k (Err c) v e = absurd (let z : ◌≡◌ {A = ℕ} 0 1 = cc in omega arith)
+placed_ok n k (Err c) v e = cc
 
 all_take : {A : Type 0} (test : A → Bool) (n : ℕ) (xs : List A) → all test xs ≡ true → all test (take n xs) ≡ true
 all_take test zero xs t = refl
@@ -118,7 +118,7 @@ module _ (works : Working ℤ → Result ℤ Cause) (σ : ℕ → ℤ) (hs : Lis
   worked_under : (ws : List (Working Operand)) (n k : ℕ) (vs : List ℤ) → all (working_bound hs) ws ≡ true
       → worked_out works e ws n k ≡ Ok vs → Both (λ w v. works (working_under σ w) ≡ Ok v) ws vs
   worked_under [] n k [] b q = tt
-  worked_under [] n k (v ∷ vs) b q = absurd (let z : ◌≡◌ {A = ℕ} 0 1 = cc in omega arith)
+  worked_under [] n k (v ∷ vs) b q = cc
   worked_under (w ∷ ws) n k vs b q =
       let p = and_parts (working_bound hs w) (all (working_bound hs) ws) b in
       let one = passed (placed n k (works (put e w))) (λ v. and_then (worked_out works e ws n (suc k)) (λ us. Ok (v ∷ us))) vs q in
@@ -144,7 +144,7 @@ module _ (works : Working ℤ → Result ℤ Cause) (σ : ℕ → ℤ) (hs : Lis
   pub body_under : (fs : List BodyFact) (n : ℕ) (cs : List Written) → all (fact_bound hs) fs ≡ true
       → body_of works e fs n ≡ Ok cs → Both (Writes works σ) fs cs
   body_under [] n [] b q = tt
-  body_under [] n (c ∷ cs) b q = absurd (let z : ◌≡◌ {A = ℕ} 0 1 = cc in omega arith)
+  body_under [] n (c ∷ cs) b q = cc
   body_under (f ∷ fs) n cs b q =
       let p = and_parts (fact_bound hs f) (all (fact_bound hs) fs) b in
       let one = passed (written works e f n) (λ w. and_then (body_of works e fs (suc n)) (λ ws. Ok (w ∷ ws))) cs q in

@@ -1,5 +1,5 @@
 -- Firings and hand-ins that are accepted or refused, taken apart.
-use Rattle.std.proofs.Common.{◌≡◌, ℕ, ◌+◌, ◌-◌, Bool, true, false, cond, ltb, leb, List, [], length, ℤ, Ok, Err, Result, arith}
+use Rattle.std.proofs.Common.{◌≡◌, ℕ, ◌+◌, ◌-◌, Bool, true, false, cond, ltb, leb, List, [], length, ℤ, Ok, Err, Result}
 use Rattle.std.proofs.lemmas.Bool.{false≢true}
 use Rattle.facts.specs.Positions.{unused_clear, is_zero}
 use Rattle.rules.specs.Results.{and_then, unless}
@@ -17,12 +17,12 @@ use Rattle.meaning.proofs.PublishedBody.{passed}
 -- Refusals.
 
 of_rule_err : {A : Type 0} (n : ℕ) (x : Result A WorkingFault) (e : Refusal) → of_rule n x ≡ Err e → (f : WorkingFault) × (e ≡ refusal.Body n f)
-of_rule_err n (Ok a) e q = absurd (let z : ◌≡◌ {A = ℕ} 0 1 = cc in omega arith)
+of_rule_err n (Ok a) e q = cc
 of_rule_err n (Err f) e q = (f, cc)
 
 allowed : {B : Type 0} (b : Bool) (r : Refusal) (f : Unit {0} → Result B Refusal) (y : B) → and_then (unless b r) f ≡ Ok y → f tt ≡ Ok y
 allowed true r f y e = e
-allowed false r f y e = absurd (let z : ◌≡◌ {A = ℕ} 0 1 = cc in omega arith)
+allowed false r f y e = cc
 
 -- Firings and hand-ins.
 
@@ -47,9 +47,9 @@ module _ {R : Type 0} (s : Setup R) (t : State) where
     where
       go : (a b : Bool) → and_then (unless a (refusal.NoRow (site.Rule n))) (λ _. and_then (unless b (refusal.RollFull (site.Rule n))) (λ _. Ok (after_firing s t r n is ws)))
           ≡ Err (refusal.Body m f) → ⊥
-      go true true e = let z : ◌≡◌ {A = ℕ} 0 1 = cc in omega arith
-      go true false e = let z : ◌≡◌ {A = ℕ} 0 1 = cc in omega arith
-      go false b e = let z : ◌≡◌ {A = ℕ} 0 1 = cc in omega arith
+      go true true e = cc
+      go true false e = cc
+      go false b e = cc
 
   -- what was written, and what it led to
   pub record Made (r : Rule) (n : ℕ) (is : List ℕ) (u : State) : Type 0 where
@@ -73,7 +73,7 @@ module _ {R : Type 0} (s : Setup R) (t : State) where
   pub body_refused : (r : Rule) (n : ℕ) (is : List ℕ) (e : Refusal) → body_worked s t r n is ≡ Err e → (f : WorkingFault) × (e ≡ refusal.Body n f)
   body_refused r n is e q = go r.fails q where
     go : (b : Bool) → cond b (Ok []) (of_rule n (body_of s.works (bindings t.facts r.heads is unbound) r.facts 1)) ≡ Err e → (f : WorkingFault) × (e ≡ refusal.Body n f)
-    go true q = absurd (let z : ◌≡◌ {A = ℕ} 0 1 = cc in omega arith)
+    go true q = cc
     go false q = of_rule_err n (body_of s.works (bindings t.facts r.heads is unbound) r.facts 1) e q
 
   pub handed_in : (k : ℕ) (vs : List ℤ) (u : State) → hand_in s t k vs ≡ Ok u → after_hand_in s t k vs ≡ u

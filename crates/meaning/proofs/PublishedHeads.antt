@@ -270,8 +270,8 @@ pub record Merged (σ : ℕ → ℤ) (hs : List Head) (ks rs : List Fact) : Type
 
 merged_none : (σ : ℕ → ℤ) (ks rs : List Fact) → map chr ks ≡ [] → map chr rs ≡ [] → Merged σ [] ks rs
 merged_none σ [] [] p q = record { facts = []; agree = tt; keeps = refl; removes = refl }
-merged_none σ [] (r ∷ rs) p q = absurd (let z : ◌≡◌ {A = ℕ} 0 1 = cc in omega arith)
-merged_none σ (k ∷ ks) rs p q = absurd (let z : ◌≡◌ {A = ℕ} 0 1 = cc in omega arith)
+merged_none σ [] (r ∷ rs) p q = cc
+merged_none σ (k ∷ ks) rs p q = cc
 
 with_removed : (σ : ℕ → ℤ) (h : Head) (hs : List Head) (f : Fact) (ks rs : List Fact) → h.taken ≡ true → Agrees σ h f
     → Merged σ hs ks rs → Merged σ (h ∷ hs) ks (f ∷ rs)
@@ -296,10 +296,10 @@ merged_next : (σ : ℕ → ℤ) (h : Head) (hs : List Head) (b : Bool) (ks rs :
     → map chr rs ≡ map (head_under σ) (cond b (h ∷ heads_that removed hs) (heads_that removed hs))
     → ((ks rs : List Fact) → map chr ks ≡ map (head_under σ) (heads_that kept hs) → map chr rs ≡ map (head_under σ) (heads_that removed hs) → Merged σ hs ks rs)
     → Merged σ (h ∷ hs) ks rs
-merged_next σ h hs true ks [] e p q rest = absurd (let z : ◌≡◌ {A = ℕ} 0 1 = cc in omega arith)
+merged_next σ h hs true ks [] e p q rest = cc
 merged_next σ h hs true ks (f ∷ rs) e p q rest =
     with_removed σ h hs f ks rs e (matches_agree σ h f (cc)) (rest ks rs p (cc))
-merged_next σ h hs false [] rs e p q rest = absurd (let z : ◌≡◌ {A = ℕ} 0 1 = cc in omega arith)
+merged_next σ h hs false [] rs e p q rest = cc
 merged_next σ h hs false (f ∷ ks) rs e p q rest =
     with_kept σ h hs f ks rs e (matches_agree σ h f (cc)) (rest ks rs (cc) q)
 

@@ -30,7 +30,7 @@ exec g s h n = record { goal = g; store = s; history = h; next = n }
 
 of_rule_ok : {A : Type 0} (n : ℕ) (x : Result A WorkingFault) (y : A) → of_rule n x ≡ Ok y → x ≡ Ok y
 of_rule_ok n (Ok a) y e = let q : a ≡ y = cc in ap Ok q
-of_rule_ok n (Err f) y e = absurd (let z : ◌≡◌ {A = ℕ} 0 1 = cc in omega arith)
+of_rule_ok n (Err f) y e = cc
 
 abbrev firing : ℕ → List ℕ → Firing
 firing n is = record { rule = n; ids = is }

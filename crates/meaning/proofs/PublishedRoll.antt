@@ -54,7 +54,7 @@ module _ {R : Type 0} (s : Setup R) where
 
   pub fired_in_history : (roll : List Entry) (f : Firing) → In (Fired f) roll → In (tuple_of s f) (history_of s roll)
   fired_in_history [] f i = absurd i
-  fired_in_history (HandedIn g ∷ es) f (inl e) = absurd (let z : ◌≡◌ {A = ℕ} 0 1 = cc in omega arith)
+  fired_in_history (HandedIn g ∷ es) f (inl e) = cc
   fired_in_history (HandedIn g ∷ es) f (inr i) = fired_in_history es f i
   fired_in_history (Fired g ∷ es) f (inl e) = let q : f ≡ g = cc in inl (ap (tuple_of s) q)
   fired_in_history (Fired g ∷ es) f (inr i) = inr (fired_in_history es f i)

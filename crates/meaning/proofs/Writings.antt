@@ -31,6 +31,3 @@ rising_written [] fs n r a = subst Rising (sym (append-nil fs)) r
 rising_written (w ∷ ws) fs n r a =
     subst Rising (append_assoc fs (numbered n w ∷ []) (numbered_from (suc n) ws))
     (rising_written ws (fs ++ numbered n w ∷ []) (suc n) (rising_push fs (numbered n w) r a) (above_push fs (numbered n w) (suc n) (above_higher fs n (suc n) (omega arith) a) (omega arith)))
-
-pub length_written : (fs : List Fact) (ws : List Written) (n : ℕ) → length (fs ++ numbered_from n ws) ≡ length fs + length ws
-length_written fs ws n = length-append fs (numbered_from n ws) ∙ ap (λ m. length fs + m) (length_numbered ws n)

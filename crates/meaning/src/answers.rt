@@ -11,7 +11,8 @@ pub enum Stepped {
 
 /// What a look answers: nothing waits, or the due instance, with the refusal of its firing where it
 /// would be refused.
-#[derive(Clone, Copy)]
+// Kept as an enum of its own: `None` in the place of `Final` would not say that nothing waits.
+#[derive(Clone, Copy, PartialEq, Eq, Debug)]
 pub enum Sight {
     Final,
     Due {
@@ -23,7 +24,7 @@ pub enum Sight {
 
 /// How a run with n ended: n firings were made and none of them failed, or what the last step
 /// answered otherwise than fired.
-#[derive(Clone, Copy)]
+#[derive(Clone, Copy, PartialEq, Eq, Debug)]
 pub enum Ending {
     Count,
     Final,
@@ -32,7 +33,7 @@ pub enum Ending {
 }
 
 /// What a run with n answers: the firings that it made, a failing one counted, and how it ended.
-#[derive(Clone, Copy)]
+#[derive(Clone, Copy, PartialEq, Eq, Debug)]
 pub struct Ran {
     pub firings: u32,
     pub ending: Ending,

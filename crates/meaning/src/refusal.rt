@@ -1,5 +1,5 @@
 ghost use Rattle.std.specs.Prelude.{◌≡◌};
-ghost use Rattle.meaning.specs.Refusals.{refusal_numbers, plain_number, number_at, rule_of_site};
+ghost use Rattle.meaning.specs.Refusals.{refusal_numbers, rule_of_site};
 
 use host::types::Cause;
 
@@ -13,6 +13,7 @@ pub struct WorkingFault {
 }
 
 /// What wanted a row or a place on the roll: a hand-in, or the firing of a rule.
+// Kept as an enum of its own: `NoRow(None)` would not say that it was a hand-in that found no row.
 #[derive(Clone, Copy, PartialEq, Eq, Debug)]
 pub enum Site {
     HandIn,
@@ -33,6 +34,7 @@ pub enum Refusal {
 }
 
 /// A refusal as numbers: its own, the rule or 0, body fact, working and cause or 0.
+// Kept as numbers, 0 for none: the line that is printed has five of them, and so will the call from C.
 #[derive(Clone, Copy, PartialEq, Eq, Debug)]
 pub struct Numbers {
     pub number: u8,
@@ -42,54 +44,54 @@ pub struct Numbers {
     pub cause: u8,
 }
 
-impl Refusal {
+const NONE: Numbers = Numbers {
+    number: 0,
+    rule: 0,
+    fact: 0,
+    working: 0,
+    cause: 0,
+};
+
+impl From<Refusal> for Numbers {
+    ghost from_gives = { λ refusal numbers. numbers ≡ refusal_numbers refusal };
+
     /// The number that a refusal goes by, with what is returned beside it.
-    pub fn numbers(self) -> Numbers
-        ensures value { result ≡ refusal_numbers self }
-    {
-        match self {
-            Refusal::Failed => plain(1),
-            Refusal::OutOfRange => plain(5),
-            Refusal::NotDeclared => plain(7),
-            Refusal::UnusedFilled => plain(8),
-            Refusal::NotAValue => plain(12),
+    fn from(refusal: Refusal) -> Numbers {
+        match refusal {
+            Refusal::Failed => Numbers { number: 1, ..NONE },
+            Refusal::OutOfRange => Numbers { number: 5, ..NONE },
+            Refusal::NotDeclared => Numbers { number: 7, ..NONE },
+            Refusal::UnusedFilled => Numbers { number: 8, ..NONE },
+            Refusal::NotAValue => Numbers { number: 12, ..NONE },
             Refusal::Body { rule, fault } => Numbers {
                 number: 13,
                 rule,
                 fact: fault.fact,
                 working: fault.working,
-                cause: fault.cause.number(),
+                cause: fault.cause.into(),
             },
-            Refusal::NoRow(site) => at(14, site),
-            Refusal::RollFull(site) => at(15, site),
+            Refusal::NoRow(site) => Numbers {
+                number: 14,
+                rule: site.rule(),
+                ..NONE
+            },
+            Refusal::RollFull(site) => Numbers {
+                number: 15,
+                rule: site.rule(),
+                ..NONE
+            },
         }
     }
 }
 
-fn plain(number: u8) -> Numbers
-    ensures value { result ≡ plain_number number }
-{
-    Numbers {
-        number,
-        rule: 0,
-        fact: 0,
-        working: 0,
-        cause: 0,
-    }
-}
-
-fn at(number: u8, site: Site) -> Numbers
-    ensures value { result ≡ number_at number (rule_of_site site) }
-{
-    let rule = match site {
-        Site::HandIn => 0,
-        Site::Rule(n) => n,
-    };
-    Numbers {
-        number,
-        rule,
-        fact: 0,
-        working: 0,
-        cause: 0,
+impl Site {
+    // The number of the rule, 0 for a hand-in.
+    fn rule(self) -> u8
+        ensures value { result ≡ rule_of_site self }
+    {
+        match self {
+            Site::HandIn => 0,
+            Site::Rule(number) => number,
+        }
     }
 }

@@ -8,8 +8,8 @@ use crate::order::Order;
 #[derive(Clone, Copy)]
 pub struct Banded;
 
-/// A band, and a value within it.
-#[derive(Clone, Copy, PartialEq, Eq, Debug)]
+/// A band, and a value within it; ranks go by the band, and within one by the value.
+#[derive(Clone, Copy, PartialEq, Eq, PartialOrd, Ord, Debug)]
 pub struct BandRank {
     pub band: u8,
     pub value: i32,
@@ -33,6 +33,6 @@ impl Order for Banded {
     }
 
     fn is_better(&self, a: BandRank, b: BandRank) -> bool {
-        a.band < b.band || a.band == b.band && a.value < b.value
+        a < b
     }
 }

@@ -49,11 +49,9 @@ pub fn perform<S: Store, H: Host, O: Order>(
     } = room;
     let mut answers = answers;
     let mut run = Run::start(roll, book, store, host, order);
-    for i in 0..calls.len() {
-        if i >= places {
-            break;
-        }
-        let (next, answer) = make(run, calls[i]);
+    let made = &calls[..places.min(calls.len())];
+    for call in made {
+        let (next, answer) = make(run, *call);
         run = next;
         answers.push_reserved(answer);
     }

@@ -12,6 +12,7 @@ use tally::answers::Answer;
 pub struct Room {
     pub(crate) roll: BlankRoll,
     pub(crate) answers: Vec<Answer>,
+    // Kept as a number beside the list: memory may be claimed for more places, and the promise goes by this.
     pub(crate) places: usize,
     ghost empty: { answers.items ≡ [] },
     ghost none: { vec_len answers ≡ 0 },

@@ -1,14 +1,14 @@
 -- What the bytes of a record mean. Assumes nothing.
 --     byte bs i          the byte at place i
---     word bs i          four bytes from place i, the lowest first
+--     word bs            the number in the first four bytes, the lowest first; word_bytes, those four
 --     record_kind b      the record that the kind byte b begins, if any
 --     size k             the bytes of a record, its kind byte counted
 --     begun bs           the kind of the whole record that the bytes begin with, or the fault
 --     fields k bs        that record with its fields, or the fault
 --     record_at k bs     the same; none where a field is out of its range
---     below, flag, comparator_of, operation_of, variable_of, operand_at, working_at    the fields
+--     below, flag, comparator_of, operation_of, variable_of, value_at, operand_at, working_at, three_at    the fields
 --     fact_kind_at, head_at, guard_at, body_at, end_at, goal_at                        the bodies
-use Rattle.std.specs.Prelude.{ℕ, ◌+◌, ◌*◌, Bool, true, false, cond, List, [], ◌∷◌, length, Some, None, Ok, Err, Option, Result, ◌==◌, nat_lt, slice_index}
+use Rattle.std.specs.Prelude.{ℕ, ℤ, ◌+◌, ◌*◌, Bool, true, false, cond, List, [], ◌∷◌, length, drop, Some, None, Ok, Err, Option, Result, ◌==◌, nat_lt, slice_index}
 use Rattle.std.specs.Int.{w32}
 use Rattle.std.proofs.Common.{to_z}
 use Rattle.std.specs.Option.{ok_or}
@@ -33,8 +33,11 @@ use Rattle.records.specs.declared.parts.Goal.{Goal}
 abbrev pub byte : List ℕ → ℕ → ℕ
 byte bs i = slice_index bs i
 
-abbrev pub word : List ℕ → ℕ → ℕ
-word bs i = byte bs i + byte bs (i + 1) * 256 + byte bs (i + 2) * 65536 + byte bs (i + 3) * 16777216
+abbrev pub word : List ℕ → ℕ
+word bs = byte bs 0 + byte bs 1 * 256 + byte bs 2 * 65536 + byte bs 3 * 16777216
+
+abbrev pub word_bytes : List ℕ → List ℕ
+word_bytes bs = byte bs 0 ∷ byte bs 1 ∷ byte bs 2 ∷ byte bs 3 ∷ []
 
 -- Kinds and sizes
 
@@ -87,18 +90,29 @@ operation_of n =
 abbrev pub variable_of : ℕ → Option Operand
 variable_of n = cond (nat_lt n 12) (Some (Variable n)) None
 
--- a byte 0 and a value, or a byte 1 and the number of a variable
-abbrev pub operand_at : List ℕ → ℕ → Option Operand
-operand_at bs i =
-    cond (byte bs i == 0) (Some (Constant (to_z w32 (word bs (i + 1)))))
-    (cond (byte bs i == 1) (variable_of (word bs (i + 1))) None)
+abbrev pub value_at : List ℕ → Option ℤ
+value_at bs = Some (to_z w32 (word bs))
 
-abbrev pub working_at : List ℕ → ℕ → Option WorkingField
-working_at bs i =
-    and_then (operation_of (byte bs i)) (λ o.
-    and_then (operand_at bs (i + 1)) (λ a.
-    and_then (operand_at bs (i + 6)) (λ b.
+-- a byte 0 and a value, or a byte 1 and the number of a variable
+abbrev pub operand_at : List ℕ → Option Operand
+operand_at bs =
+    cond (byte bs 0 == 0) (Some (Constant (to_z w32 (word (drop 1 bs)))))
+    (cond (byte bs 0 == 1) (variable_of (word (drop 1 bs))) None)
+
+abbrev pub working_at : List ℕ → Option WorkingField
+working_at bs =
+    and_then (operation_of (byte bs 0)) (λ o.
+    and_then (operand_at (drop 1 bs)) (λ a.
+    and_then (operand_at (drop 6 bs)) (λ b.
     Some (record { operation = o; first = a; second = b }))))
+
+-- three fields of n bytes each, one after the other
+abbrev pub three_at : {A : Type 0} → (List ℕ → Option A) → ℕ → List ℕ → Option (List A)
+three_at read n bs =
+    and_then (read bs) (λ a.
+    and_then (read (drop n bs)) (λ b.
+    and_then (read (drop n (drop n bs))) (λ c.
+    Some (a ∷ b ∷ c ∷ []))))
 
 -- Bodies
 
@@ -112,36 +126,30 @@ abbrev pub head_at : List ℕ → Option Head
 head_at bs =
     and_then (flag (byte bs 1)) (λ t.
     and_then (below (byte bs 2) 32) (λ k.
-    and_then (operand_at bs 3) (λ a.
-    and_then (operand_at bs 8) (λ b.
-    and_then (operand_at bs 13) (λ c.
-    Some (record { taken = t; kind = k; operands = a ∷ b ∷ c ∷ [] }))))))
+    and_then (three_at operand_at 5 (drop 3 bs)) (λ os.
+    Some (record { taken = t; kind = k; operands = os }))))
 
 abbrev pub guard_at : List ℕ → Option Guard
 guard_at bs =
     and_then (comparator_of (byte bs 1)) (λ c.
-    and_then (operand_at bs 2) (λ a.
-    and_then (operand_at bs 7) (λ b.
+    and_then (operand_at (drop 2 bs)) (λ a.
+    and_then (operand_at (drop 7 bs)) (λ b.
     Some (record { comparator = c; left = a; right = b }))))
 
 abbrev pub body_at : List ℕ → Option BodyField
 body_at bs =
     and_then (below (byte bs 1) 32) (λ k.
-    and_then (working_at bs 2) (λ a.
-    and_then (working_at bs 13) (λ b.
-    and_then (working_at bs 24) (λ c.
-    Some (record { kind = k; workings = a ∷ b ∷ c ∷ [] })))))
+    and_then (three_at working_at 11 (drop 2 bs)) (λ ws.
+    Some (record { kind = k; workings = ws })))
 
 abbrev pub end_at : List ℕ → Option Record
-end_at bs = and_then (operand_at bs 2) (λ r. Some (record_of.RuleEnds (byte bs 1) r))
+end_at bs = and_then (operand_at (drop 2 bs)) (λ r. Some (record_of.RuleEnds (byte bs 1) r))
 
 abbrev pub goal_at : List ℕ → Option Goal
 goal_at bs =
     and_then (below (byte bs 1) 32) (λ k.
-    Some (record {
-      kind = k;
-      values = to_z w32 (word bs 2) ∷ to_z w32 (word bs 6) ∷ to_z w32 (word bs 10) ∷ [];
-    }))
+    and_then (three_at value_at 4 (drop 2 bs)) (λ vs.
+    Some (record { kind = k; values = vs })))
 
 abbrev pub record_at : RecordKind → List ℕ → Option Record
 record_at kind.FactKind bs = fact_kind_at bs

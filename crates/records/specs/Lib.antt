@@ -1,3 +1,4 @@
 pub mod Blanks
 pub mod Bytes
 pub mod Faults
+pub mod Workings

@@ -7,10 +7,7 @@ impl Position for Operand {
     ghost blank = { operand_blank };
 
     fn is_blank(&self) -> bool {
-        match *self {
-            Operand::Constant(n) => n == 0,
-            Operand::Variable(_) => false,
-        }
+        *self == Operand::Constant(0)
     }
 }
 
@@ -18,9 +15,6 @@ impl Position for WorkingField {
     ghost blank = { working_blank };
 
     fn is_blank(&self) -> bool {
-        match self.operation {
-            Operation::Copy => self.first.is_blank() && self.second.is_blank(),
-            Operation::Sum | Operation::Difference => false,
-        }
+        self.operation == Operation::Copy && self.first.is_blank() && self.second.is_blank()
     }
 }

@@ -1,5 +1,8 @@
 ghost use Rattle.std.specs.Prelude.{◌≡◌};
 ghost use Rattle.records.specs.Faults.{fault_number};
+ghost use Rattle.records.specs.declared.fault.Fault.TheVariants as fault_of;
+
+use few::Full;
 
 /// Why a record of a week file is refused; the variant nearest the top decides.
 #[derive(Clone, Copy, PartialEq, Eq, Debug)]
@@ -16,12 +19,12 @@ pub enum Fault {
     RuleOpen,
 }
 
-impl Fault {
-    /// The number that a fault goes by.
-    pub fn number(self) -> u8
-        ensures value { result ≡ fault_number self }
-    {
-        match self {
+impl From<Fault> for u8 {
+    // The number that a fault goes by.
+    ghost from_gives = { λ fault number. number ≡ fault_number fault };
+
+    fn from(fault: Fault) -> u8 {
+        match fault {
             Fault::UnknownKindByte => 2,
             Fault::Cut => 3,
             Fault::MayNotFollow => 4,
@@ -33,5 +36,14 @@ impl Fault {
             Fault::TooMany => 10,
             Fault::RuleOpen => 11,
         }
+    }
+}
+
+impl From<Full> for Fault {
+    // One part more than a rule has places for.
+    ghost from_gives = { λ _ fault. fault ≡ fault_of.TooMany };
+
+    fn from(_full: Full) -> Self {
+        Self::TooMany
     }
 }

@@ -1,6 +1,9 @@
 ghost use Rattle.std.specs.Prelude.{◌≡◌};
+ghost use Rattle.std.specs.Option.{ok_or};
 ghost use Rattle.records.specs.Bytes.{record_kind, size};
+ghost use Rattle.records.specs.declared.fault.Fault.TheVariants as fault_of;
 
+use crate::fault::Fault;
 use crate::parts::{BodyField, Goal, Guard, Head, Operand};
 use facts::Kind;
 
@@ -20,24 +23,28 @@ pub enum RecordKind {
 /// The longest record, in bytes.
 pub const LONGEST_RECORD: usize = 35;
 
-impl RecordKind {
-    /// The kind of record that a kind byte begins, if any.
-    pub fn of_byte(byte: u8) -> Option<RecordKind>
-        ensures value { result ≡ record_kind byte }
-    {
+impl TryFrom<u8> for RecordKind {
+    type Error = Fault;
+
+    // The kind of record that a kind byte begins.
+    ghost try_from_gives = { λ byte kind. kind ≡ ok_or (record_kind byte) fault_of.UnknownKindByte };
+
+    fn try_from(byte: u8) -> Result<RecordKind, Fault> {
         match byte {
-            0x01 => Some(RecordKind::FactKind),
-            0x02 => Some(RecordKind::RuleBegins),
-            0x03 => Some(RecordKind::Head),
-            0x04 => Some(RecordKind::Guard),
-            0x05 => Some(RecordKind::BodyFact),
-            0x06 => Some(RecordKind::Fail),
-            0x07 => Some(RecordKind::RuleEnds),
-            0x08 => Some(RecordKind::GoalFact),
-            _ => None,
+            0x01 => Ok(RecordKind::FactKind),
+            0x02 => Ok(RecordKind::RuleBegins),
+            0x03 => Ok(RecordKind::Head),
+            0x04 => Ok(RecordKind::Guard),
+            0x05 => Ok(RecordKind::BodyFact),
+            0x06 => Ok(RecordKind::Fail),
+            0x07 => Ok(RecordKind::RuleEnds),
+            0x08 => Ok(RecordKind::GoalFact),
+            _ => Err(Fault::UnknownKindByte),
         }
     }
+}
 
+impl RecordKind {
     /// How many bytes a record of this kind has, the kind byte counted.
     pub fn size(self) -> usize
         ensures value { result ≡ size self }

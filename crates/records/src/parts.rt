@@ -1,8 +1,11 @@
+ghost use Rattle.std.specs.Prelude.{◌≡◌};
+ghost use Rattle.records.specs.Workings.{working_of};
+
 use facts::{Kind, Value, Values};
-use host::types::Comparator;
+use host::types::{Comparator, Working};
 
 /// A constant, or the number of a variable, 0 to 11.
-#[derive(Clone, Copy)]
+#[derive(Clone, Copy, PartialEq, Eq, Debug)]
 pub enum Operand {
     Constant(Value),
     Variable(u8),
@@ -25,7 +28,7 @@ pub struct Guard {
 }
 
 /// How the file says that a value is worked out.
-#[derive(Clone, Copy)]
+#[derive(Clone, Copy, PartialEq, Eq, Debug)]
 pub enum Operation {
     Copy,
     Sum,
@@ -38,6 +41,19 @@ pub struct WorkingField {
     pub operation: Operation,
     pub first: Operand,
     pub second: Operand,
+}
+
+impl From<WorkingField> for Working<Operand> {
+    // The working without the operand that a copy does not use.
+    ghost from_gives = { λ field working. working ≡ working_of field };
+
+    fn from(field: WorkingField) -> Working<Operand> {
+        match field.operation {
+            Operation::Copy => Working::Copy(field.first),
+            Operation::Sum => Working::Sum(field.first, field.second),
+            Operation::Difference => Working::Difference(field.first, field.second),
+        }
+    }
 }
 
 /// A fact that a firing writes, as the file has it.

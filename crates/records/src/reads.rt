@@ -1,23 +1,20 @@
-ghost use Rattle.std.specs.Prelude.{◌≡◌, ◌+◌, ◌≤◌, length};
+ghost use Rattle.std.specs.Prelude.{◌≡◌, ◌+◌, ◌≤◌, ℕ, List, Option, length};
 ghost use Rattle.std.specs.Int.{w32};
 ghost use Rattle.std.proofs.Common.{to_z};
-ghost use Rattle.records.specs.Bytes.{begun, fields, word, flag, below, comparator_of, operation_of, operand_at, working_at, fact_kind_at, head_at, guard_at, body_at, end_at, goal_at, record_at, variable_of, size};
+ghost use Rattle.records.specs.Bytes.{begun, fields, word, word_bytes, flag, below, comparator_of, operation_of, value_at, operand_at, working_at, three_at, fact_kind_at, head_at, guard_at, body_at, end_at, goal_at, record_at, variable_of, size};
 
 use crate::fault::Fault;
 use crate::kinds::{Record, RecordKind};
 use crate::parts::{BodyField, Goal, Guard, Head, Operand, Operation, WorkingField};
+use facts::Value;
 use host::types::Comparator;
 
 /// The kind of the whole record that the bytes begin with; no bytes are a cut record.
 pub fn begun(bytes: &[u8]) -> Result<RecordKind, Fault>
     ensures value { result ≡ begun bytes.now }
 {
-    if bytes.len() == 0 {
-        return Err(Fault::Cut);
-    }
-    let Some(kind) = RecordKind::of_byte(bytes[0]) else {
-        return Err(Fault::UnknownKindByte);
-    };
+    let byte = bytes.first().ok_or(Fault::Cut)?;
+    let kind = RecordKind::try_from(*byte)?;
     if bytes.len() < kind.size() {
         return Err(Fault::Cut);
     }
@@ -41,12 +38,12 @@ fn record(kind: RecordKind, bytes: &[u8]) -> Option<Record>
     match kind {
         RecordKind::FactKind => fact_kind(bytes),
         RecordKind::RuleBegins => Some(Record::RuleBegins),
-        RecordKind::Head => Some(Record::Head(head(bytes)?)),
-        RecordKind::Guard => Some(Record::Guard(guard(bytes)?)),
-        RecordKind::BodyFact => Some(Record::BodyFact(body_fact(bytes)?)),
+        RecordKind::Head => head(bytes).map(Record::Head),
+        RecordKind::Guard => guard(bytes).map(Record::Guard),
+        RecordKind::BodyFact => body_fact(bytes).map(Record::BodyFact),
         RecordKind::Fail => Some(Record::Fail),
         RecordKind::RuleEnds => rule_ends(bytes),
-        RecordKind::GoalFact => Some(Record::GoalFact(goal(bytes)?)),
+        RecordKind::GoalFact => goal(bytes).map(Record::GoalFact),
     }
 }
 
@@ -65,13 +62,11 @@ fn head(bytes: &[u8]) -> Option<Head>
 {
     let taken = flag(bytes[1])?;
     let kind = below(bytes[2], 32)?;
-    let a = operand(bytes, 3)?;
-    let b = operand(bytes, 8)?;
-    let c = operand(bytes, 13)?;
+    let operands = three(&bytes[3..])?;
     Some(Head {
         taken,
         kind,
-        operands: [a, b, c],
+        operands,
     })
 }
 
@@ -80,8 +75,8 @@ fn guard(bytes: &[u8]) -> Option<Guard>
     ensures value { result ≡ guard_at bytes.now }
 {
     let comparator = comparator(bytes[1])?;
-    let left = operand(bytes, 2)?;
-    let right = operand(bytes, 7)?;
+    let left = Operand::read(&bytes[2..])?;
+    let right = Operand::read(&bytes[7..])?;
     Some(Guard {
         comparator,
         left,
@@ -94,20 +89,15 @@ fn body_fact(bytes: &[u8]) -> Option<BodyField>
     ensures value { result ≡ body_at bytes.now }
 {
     let kind = below(bytes[1], 32)?;
-    let a = working(bytes, 2)?;
-    let b = working(bytes, 13)?;
-    let c = working(bytes, 24)?;
-    Some(BodyField {
-        kind,
-        workings: [a, b, c],
-    })
+    let workings = three(&bytes[2..])?;
+    Some(BodyField { kind, workings })
 }
 
 fn rule_ends(bytes: &[u8]) -> Option<Record>
     requires whole { 7 ≤ length bytes.now }
     ensures value { result ≡ end_at bytes.now }
 {
-    let rank = operand(bytes, 2)?;
+    let rank = Operand::read(&bytes[2..])?;
     Some(Record::RuleEnds {
         band: bytes[1],
         rank,
@@ -119,47 +109,90 @@ fn goal(bytes: &[u8]) -> Option<Goal>
     ensures value { result ≡ goal_at bytes.now }
 {
     let kind = below(bytes[1], 32)?;
-    Some(Goal {
-        kind,
-        values: [signed(bytes, 2), signed(bytes, 6), signed(bytes, 10)],
-    })
+    let values = three(&bytes[2..])?;
+    Some(Goal { kind, values })
 }
 
-fn working(bytes: &[u8], at: usize) -> Option<WorkingField>
-    requires whole { at + 11 ≤ length bytes.now }
-    ensures value { result ≡ working_at bytes.now at }
-{
-    let operation = operation(bytes[at])?;
-    let first = operand(bytes, at + 1)?;
-    let second = operand(bytes, at + 6)?;
-    Some(WorkingField {
-        operation,
-        first,
-        second,
-    })
+// A field of a record that stands in it three times, one after the other.
+trait Field: Copy {
+    // How many bytes it has.
+    const SIZE: usize;
+
+    ghost SIZE: { ℕ };
+
+    // The field that the bytes begin with, or none where it is out of its range.
+    ghost at: { List ℕ → Option Self };
+
+    // The field that the bytes begin with, or none where it is out of its range.
+    fn read(bytes: &[u8]) -> Option<Self>
+        requires whole { SIZE ≤ length bytes.now }
+        ensures value { result ≡ at bytes.now };
 }
 
-fn operand(bytes: &[u8], at: usize) -> Option<Operand>
-    requires whole { at + 5 ≤ length bytes.now }
-    ensures value { result ≡ operand_at bytes.now at }
+// The three fields that the bytes begin with.
+fn three<F: Field>(bytes: &[u8]) -> Option<[F; 3]>
+    requires whole { F.SIZE + F.SIZE + F.SIZE ≤ length bytes.now }
+    ensures value { result ≡ three_at F.at F.SIZE bytes.now }
 {
-    match bytes[at] {
-        0 => Some(Operand::Constant(signed(bytes, at + 1))),
-        1 => variable(unsigned(bytes, at + 1)),
-        _ => None,
+    let second = &bytes[F::SIZE..];
+    let third = &second[F::SIZE..];
+    Some([F::read(bytes)?, F::read(second)?, F::read(third)?])
+}
+
+impl Field for Value {
+    const SIZE: usize = 4;
+
+    ghost SIZE = { 4 };
+
+    ghost at = { value_at };
+
+    fn read(bytes: &[u8]) -> Option<Value> {
+        Some(i32::from_le_bytes(word(bytes)))
+    }
+}
+
+impl Field for Operand {
+    const SIZE: usize = 5;
+
+    ghost SIZE = { 5 };
+
+    ghost at = { operand_at };
+
+    fn read(bytes: &[u8]) -> Option<Operand> {
+        match bytes[0] {
+            0 => Some(Operand::Constant(i32::from_le_bytes(word(&bytes[1..])))),
+            1 => variable(u32::from_le_bytes(word(&bytes[1..]))),
+            _ => None,
+        }
+    }
+}
+
+impl Field for WorkingField {
+    const SIZE: usize = 11;
+
+    ghost SIZE = { 11 };
+
+    ghost at = { working_at };
+
+    fn read(bytes: &[u8]) -> Option<WorkingField> {
+        let operation = operation(bytes[0])?;
+        let first = Operand::read(&bytes[1..])?;
+        let second = Operand::read(&bytes[6..])?;
+        Some(WorkingField {
+            operation,
+            first,
+            second,
+        })
     }
 }
 
 fn variable(number: u32) -> Option<Operand>
     ensures value { result ≡ variable_of number }
 {
-    if number < 12 {
-        Some(Operand::Variable(number as u8))
-    } else {
-        None
-    }
+    (number < 12).then(|| Operand::Variable(number as u8))
 }
 
+// Kept as functions to an Option, here and below: of a byte out of range `fields` gives the one fault.
 fn operation(byte: u8) -> Option<Operation>
     ensures value { result ≡ operation_of byte }
 {
@@ -196,19 +229,13 @@ fn flag(byte: u8) -> Option<bool>
 fn below(byte: u8, limit: u8) -> Option<u8>
     ensures value { result ≡ below byte limit }
 {
-    if byte < limit { Some(byte) } else { None }
+    (byte < limit).then_some(byte)
 }
 
-fn signed(bytes: &[u8], at: usize) -> i32
-    requires whole { at + 4 ≤ length bytes.now }
-    ensures value { result ≡ to_z w32 (word bytes.now at) }
+// The four bytes of a number, the lowest first.
+fn word(bytes: &[u8]) -> [u8; 4]
+    requires whole { 4 ≤ length bytes.now }
+    ensures value { result ≡ word_bytes bytes.now }
 {
-    i32::from_le_bytes([bytes[at], bytes[at + 1], bytes[at + 2], bytes[at + 3]])
-}
-
-fn unsigned(bytes: &[u8], at: usize) -> u32
-    requires whole { at + 4 ≤ length bytes.now }
-    ensures value { result ≡ word bytes.now at }
-{
-    u32::from_le_bytes([bytes[at], bytes[at + 1], bytes[at + 2], bytes[at + 3]])
+    [bytes[0], bytes[1], bytes[2], bytes[3]]
 }

@@ -1,4 +1,4 @@
-use crate::outcome::{Outcome, Refused, of_ending, of_hand_in, of_reading};
+use crate::outcome::{Outcome, Refused, of_hand_in};
 use host::host::Host;
 use meaning::roll::ROLL_PLACES;
 use order::order::Order;
@@ -12,23 +12,32 @@ use store::Store;
 use tally::answers::Answer;
 use tally::calls::Call;
 use week::reader::Reader;
-use week::week::Week;
+use week::week::{At, Week};
 
-/// There was no memory for the work.
-#[derive(Clone, Copy, Debug)]
-pub struct NoMemory;
+/// A week whose run has ended, and how.
+#[derive(Drop)]
+pub struct Ended<S: Store, H: Host, O: Order> {
+    pub run: Run<S, H, O>,
+    pub outcome: Outcome,
+}
 
-impl From<AllocError> for NoMemory {
-    fn from(_e: AllocError) -> NoMemory {
-        NoMemory
+/// Why no run came of a week file: its reading was refused, or there was no memory for the work.
+#[derive(Clone, Copy, PartialEq, Eq, Debug)]
+pub enum Unread {
+    Refused(Refused),
+    NoMemory,
+}
+
+impl From<AllocError> for Unread {
+    fn from(_e: AllocError) -> Unread {
+        Unread::NoMemory
     }
 }
 
-/// What came of a week file: its reading was refused, or its run has ended.
-#[derive(Drop)]
-pub enum Report<S: Store, H: Host, O: Order> {
-    Unread(Refused),
-    Ended(Run<S, H, O>, Outcome),
+impl From<At> for Unread {
+    fn from(at: At) -> Unread {
+        Unread::Refused(at.into())
+    }
 }
 
 /// One firing more than a roll has places: a run with so many ends otherwise than by count.
@@ -42,52 +51,49 @@ pub fn conduct<S: Store + Drop, H: Host + Drop, O: Order + Drop>(
     store: S,
     host: H,
     order: O,
-) -> Result<Report<S, H, O>, NoMemory> {
+) -> Result<Ended<S, H, O>, Unread> {
     let reader = Reader::new(heap)?;
-    let week = match reader.read(file) {
-        Ok(week) => week,
-        Err(at) => return Ok(Report::Unread(of_reading(at))),
-    };
     let Week {
         book,
         start,
         goals,
         fault,
-    } = week;
-    let calls = hand_ins(heap, goals.as_slice())?;
+    } = reader.read(file)?;
+    let calls = hand_ins(heap, &goals)?;
     let room = Room::claim(heap, calls.len())?;
-    let Performed { run, answers } = perform(room, book, store, host, order, calls.as_slice());
-    if let Some(refused) = first_refused(answers.as_slice(), start) {
-        return Ok(Report::Unread(refused));
+    let Performed { run, answers } = perform(room, book, store, host, order, &calls);
+    if let Some(refused) = first_refused(&answers, start) {
+        return Err(Unread::Refused(refused));
     }
     if let Some(at) = fault {
-        return Ok(Report::Unread(of_reading(at)));
+        return Err(at.into());
     }
     let mut run = run;
     let ran = run.run(TO_THE_END);
-    Ok(Report::Ended(run, of_ending(ran.ending)))
+    let outcome = ran.ending.into();
+    Ok(Ended { run, outcome })
 }
 
 // The hand-ins of goal facts as a list of calls.
 fn hand_ins(heap: Global, goals: &[Goal]) -> Result<Vec<Call>, AllocError> {
-    let mut calls = Vec::with_capacity(heap, goals.len())?;
-    for goal in goals {
-        calls.push(Call::HandIn {
+    goals
+        .iter()
+        .map(|goal| Call::HandIn {
             kind: goal.kind,
             values: goal.values,
-        })?;
-    }
-    Ok(calls)
+        })
+        .collect(heap)
 }
 
 // The first of the hand-ins that was refused, with the place of its record.
 fn first_refused(answers: &[Answer], start: usize) -> Option<Refused> {
-    let mut place = start;
-    for answer in answers {
-        if let Answer::HandIn(Err(refusal)) = *answer {
-            return Some(of_hand_in(place, refusal));
-        }
-        place = place.saturating_add(RecordKind::GoalFact.size());
-    }
-    None
+    answers.iter().enumerate().find_map(|(i, answer)| match answer {
+        Answer::HandIn(Err(refusal)) => Some(of_hand_in(goal_place(start, i), *refusal)),
+        _ => None,
+    })
+}
+
+// The place of the record of a goal fact, of those that begin at a place.
+fn goal_place(start: usize, i: usize) -> usize {
+    start.saturating_add(i.saturating_mul(RecordKind::GoalFact.size()))
 }

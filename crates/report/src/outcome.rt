@@ -2,11 +2,13 @@ ghost use Rattle.std.specs.Prelude.{◌≡◌};
 ghost use Rattle.report.specs.Outcomes.{refused_reading, refused_hand_in, refused_firing, outcome_of};
 
 use meaning::answers::Ending;
-use meaning::refusal::Refusal;
+use meaning::refusal::{Numbers, Refusal};
+use std::fmt;
 use week::week::At;
 
 /// A refusal as it is printed: its number, the place or the rule, body fact, working and cause.
-#[derive(Clone, Copy)]
+// Kept beside `Numbers`, and as numbers: a place may be a byte of a file, and so the line is printed.
+#[derive(Clone, Copy, PartialEq, Eq, Debug)]
 pub struct Refused {
     pub number: u8,
     pub place: usize,
@@ -16,7 +18,8 @@ pub struct Refused {
 }
 
 /// How a run ended.
-#[derive(Clone, Copy)]
+// Kept beside `Ending`: a run to its end does not end by count, and its refusal is one that is printed.
+#[derive(Clone, Copy, PartialEq, Eq, Debug)]
 pub enum Outcome {
     Final,
     Failed,
@@ -24,15 +27,33 @@ pub enum Outcome {
 }
 
 /// The refusal of a record, with its place.
-pub fn of_reading(at: At) -> Refused
-    ensures value { result ≡ refused_reading at }
-{
-    Refused {
-        number: at.fault.number(),
-        place: at.place,
-        fact: 0,
-        working: 0,
-        cause: 0,
+impl From<At> for Refused {
+    ghost from_gives = { λ at refused. refused ≡ refused_reading at };
+
+    fn from(at: At) -> Refused {
+        Refused {
+            number: at.fault.into(),
+            place: at.place,
+            fact: 0,
+            working: 0,
+            cause: 0,
+        }
+    }
+}
+
+/// The refusal of a firing, with its rule.
+impl From<Refusal> for Refused {
+    ghost from_gives = { λ refusal refused. refused ≡ refused_firing refusal };
+
+    fn from(refusal: Refusal) -> Refused {
+        let numbers = Numbers::from(refusal);
+        Refused {
+            number: numbers.number,
+            place: usize::from(numbers.rule),
+            fact: numbers.fact,
+            working: numbers.working,
+            cause: numbers.cause,
+        }
     }
 }
 
@@ -40,39 +61,45 @@ pub fn of_reading(at: At) -> Refused
 pub fn of_hand_in(place: usize, refusal: Refusal) -> Refused
     ensures value { result ≡ refused_hand_in place refusal }
 {
-    let numbers = refusal.numbers();
     Refused {
-        number: numbers.number,
         place,
-        fact: numbers.fact,
-        working: numbers.working,
-        cause: numbers.cause,
-    }
-}
-
-/// The refusal of a firing, with its rule.
-pub fn of_firing(refusal: Refusal) -> Refused
-    ensures value { result ≡ refused_firing refusal }
-{
-    let numbers = refusal.numbers();
-    let place = numbers.rule as usize;
-    Refused {
-        number: numbers.number,
-        place,
-        fact: numbers.fact,
-        working: numbers.working,
-        cause: numbers.cause,
+        ..Refused::from(refusal)
     }
 }
 
 /// How a run ended that was to go on to its end. That it ends by count is not possible, since it was
 /// allowed more firings than a roll has places.
-pub fn of_ending(ending: Ending) -> Outcome
-    ensures value { result ≡ outcome_of ending }
-{
-    match ending {
-        Ending::Count | Ending::Final => Outcome::Final,
-        Ending::Failed => Outcome::Failed,
-        Ending::Refused(refusal) => Outcome::Refused(of_firing(refusal)),
+impl From<Ending> for Outcome {
+    ghost from_gives = { λ ending outcome. outcome ≡ outcome_of ending };
+
+    fn from(ending: Ending) -> Outcome {
+        match ending {
+            Ending::Count | Ending::Final => Outcome::Final,
+            Ending::Failed => Outcome::Failed,
+            Ending::Refused(refusal) => Outcome::Refused(refusal.into()),
+        }
+    }
+}
+
+impl fmt::Display for Refused {
+    fn fmt<W: fmt::Write>(&self, f: &mut fmt::Formatter<W>) -> fmt::Result {
+        let Refused {
+            number,
+            place,
+            fact,
+            working,
+            cause,
+        } = *self;
+        write!(f, "refused {number} {place} {fact} {working} {cause}")
+    }
+}
+
+impl fmt::Display for Outcome {
+    fn fmt<W: fmt::Write>(&self, f: &mut fmt::Formatter<W>) -> fmt::Result {
+        match self {
+            Outcome::Final => write!(f, "final"),
+            Outcome::Failed => write!(f, "failed"),
+            Outcome::Refused(refused) => write!(f, "{refused}"),
+        }
     }
 }

@@ -7,7 +7,8 @@
 --     bound hs o         o is a constant or a variable that some head binds
 --     closed r           r has a head, and each variable in its guards, body facts and rank is bound
 --     small r            r has at most four heads, and their variables have numbers below 12
-use Rattle.std.specs.Prelude.{ℕ, Bool, true, false, ◌&&◌, ◌||◌, List, [], ◌∷◌, length, pos, None, Option, ◌==◌, nat_le, nat_lt, slice_index_or}
+use Rattle.std.specs.Prelude.{ℕ, Bool, true, false, ◌&&◌, List, [], length, pos, None, Option, ◌==◌, nat_le, nat_lt, slice_index_or}
+use Rattle.std.specs.List.{list_any}
 use Rattle.facts.specs.Positions.{all}
 use Rattle.few.specs.Few.{listed}
 use Rattle.host.specs.declared.types.Working.{Working}
@@ -46,8 +47,7 @@ arity_of ks k = slice_index_or ks k None
 -- Binding
 
 abbrev pub any : {A : Type 0} → (A → Bool) → List A → Bool
-any test [] = false
-any test (x ∷ xs) = test x || any test xs
+any test xs = list_any test xs
 
 abbrev pub names : ℕ → Operand → Bool
 names v (Constant n) = false

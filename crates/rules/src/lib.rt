@@ -14,6 +14,7 @@ use records::parts::{Guard, Head, Operand};
 #[derive(Clone, Copy)]
 pub struct BodyFact {
     pub kind: Kind,
+    // Kept as an arity beside three workings: a fact has three values, and each is worked out at its place.
     pub arity: u8,
     pub workings: [Working<Operand>; 3],
 }
@@ -24,6 +25,7 @@ pub struct Rule {
     pub heads: Few<Head, 4>,
     pub guards: Few<Guard, 8>,
     pub facts: Few<BodyFact, 4>,
+    // Kept as a flag beside the facts: a record is defined to add a fact to any rule, one that fails too.
     pub fails: bool,
     pub band: u8,
     pub rank: Operand,

@@ -19,12 +19,9 @@ at_firings c k = record { state = c.state; firings = k; ending = c.ending }
 
 pub fired_is : (r : Result Stepped Refusal) → true ≡ answers_fired r → r ≡ Ok stepped.Fired
 fired_is (Ok stepped.Fired) e = refl
-fired_is (Ok stepped.Failed) e = absurd (let z : ◌≡◌ {A = ℕ} 0 1 = cc in omega arith)
-fired_is (Ok stepped.Final) e = absurd (let z : ◌≡◌ {A = ℕ} 0 1 = cc in omega arith)
-fired_is (Err x) e = absurd (let z : ◌≡◌ {A = ℕ} 0 1 = cc in omega arith)
-
-pub ahead_none : (c : Course) → c ≡ ahead 0 c
-ahead_none c = let e : c.firings ≡ 0 + c.firings = omega arith in ap (at_firings c) e
+fired_is (Ok stepped.Failed) e = cc
+fired_is (Ok stepped.Final) e = cc
+fired_is (Err x) e = cc
 
 ahead_one_more : (k : ℕ) (c : Course) → ahead k (one_more c) ≡ ahead (k + 1) c
 ahead_one_more k c = let e : k + suc c.firings ≡ k + 1 + c.firings = omega arith in ap (at_firings c) e
@@ -59,7 +56,7 @@ module _ {R : Type 0} (s : Setup R) (n k : ℕ) (t : State) where
 
   -- a step that answered otherwise
   pub counted_ends : k < n → (u : State) (r : Result Stepped Refusal) → answers_fired r ≡ false → r ≡ step_answer s t → u ≡ step_after s t → Ended u r
-  counted_ends l u (Ok stepped.Fired) f e a = absurd (let z : ◌≡◌ {A = ℕ} 0 1 = cc in omega arith)
+  counted_ends l u (Ok stepped.Fired) f e a = cc
   counted_ends l u (Ok stepped.Failed) f e a = ends_so (n - (k + 1)) (left l) _ (course_fails s t (n - (k + 1)) (sym e)) u (Ok stepped.Failed) a refl
   counted_ends l u (Ok stepped.Final) f e a =
       let z : k ≡ k + 0 = omega arith in
@@ -69,8 +66,8 @@ module _ {R : Type 0} (s : Setup R) (n k : ℕ) (t : State) where
       ends_so (n - (k + 1)) (left l) _ (course_refused s t (n - (k + 1)) x (sym e)) u (Err x) a (ap (λ j. ran j (ending.Refused x)) z)
 
   -- n firings were made
-  pub counted_all : n ≤ k → (t ≡ (ahead k (course s (n - k) t)).state) × (ran k ending.Count ≡ ran_of (ahead k (course s (n - k) t)))
-  counted_all l =
+  pub counted_all : n ≤ k → k ≤ n → (t ≡ (ahead k (course s (n - k) t)).state) × (ran n ending.Count ≡ ran_of (ahead k (course s (n - k) t)))
+  counted_all l m =
       let e : 0 ≡ n - k = omega arith in
-      let z : k ≡ k + 0 = omega arith in
+      let z : n ≡ k + 0 = omega arith in
       (ap (λ j. (course s j t).state) e, ap (λ j. ran j ending.Count) z ∙ ap (λ j. ran_of (ahead k (course s j t))) e)

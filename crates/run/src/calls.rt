@@ -6,7 +6,7 @@ ghost use Rattle.meaning.specs.Calls.{HandsIn};
 ghost use Rattle.meaning.specs.Firing.{hand_in};
 ghost use Rattle.tally.specs.declared.answers.Answer.TheVariants as answer;
 ghost use Rattle.tally.specs.declared.calls.Call.TheVariants as call;
-ghost use Rattle.run.specs.Runs.{setup_of, state_of, setup, state, Standing, Does};
+ghost use Rattle.run.specs.Runs.{setup, state, Standing, Does};
 
 use crate::run::Run;
 use facts::positions::unused_clear;
@@ -20,7 +20,7 @@ use store::Store;
 impl<S: Store, H: Host, O: Order> Run<S, H, O> {
     /// The live fact of an id, or its absence.
     pub fn read(&self, id: Id) -> Option<Fact>
-        ensures value { Standing S.Store.sound S.Store.live self.now → result ≡ find id (state_of S.Store.live self.now).facts }
+        ensures value { Standing S.Store self.now → result ≡ find id (state S.Store self.now).facts }
         ensures does { Does S.Store H.Host O.Order self.now (call.Read id) self.now (answer.Read result) }
     {
         self.store.read(id)
@@ -28,35 +28,31 @@ impl<S: Store, H: Host, O: Order> Run<S, H, O> {
 
     /// What has been done so far: each hand-in accepted and each firing, in their order.
     pub fn roll(&self) -> &[Entry]
-        ensures value { result.now ≡ (state_of S.Store.live self.now).roll }
+        ensures value { result.now ≡ (state S.Store self.now).roll }
     {
         self.roll.as_slice()
     }
 
     /// The id that the next fact will have; every live id is below it.
     pub fn next_id(&self) -> Id
-        ensures value { result ≡ (state_of S.Store.live self.now).next }
+        ensures value { result ≡ (state S.Store self.now).next }
     {
         self.next
     }
 
     /// Whether a rule with fail has fired.
     pub fn has_failed(&self) -> bool
-        ensures value { result ≡ (state_of S.Store.live self.now).failed }
+        ensures value { result ≡ (state S.Store self.now).failed }
     {
         self.failed
     }
 
     /// Hands a fact in, and answers its id; refused, it changes nothing.
     pub fn hand_in(&mut self, kind: Kind, values: Values) -> Result<Id, Refusal>
-        ensures kept { setup_of S.Store.rows H.Host.value H.Host.says H.Host.works O.Order.rank O.Order.better self.new ≡ setup_of S.Store.rows H.Host.value H.Host.says H.Host.works O.Order.rank O.Order.better self.old }
-        ensures standing { Standing S.Store.sound S.Store.live self.old → Standing S.Store.sound S.Store.live self.new }
-        ensures hands_in { Standing S.Store.sound S.Store.live self.old → HandsIn (setup_of S.Store.rows H.Host.value H.Host.says H.Host.works O.Order.rank O.Order.better self.old) (state_of S.Store.live self.old) kind values (state_of S.Store.live self.new) result }
+        ensures hands_in { Standing S.Store self.old → HandsIn (setup S.Store H.Host O.Order self.old) (state S.Store self.old) kind values (state S.Store self.new) result }
         ensures does { Does S.Store H.Host O.Order self.old (call.HandIn kind values) self.new (answer.HandIn result) }
     {
-        if let Err(refusal) = self.admit(kind, values) {
-            return Err(refusal);
-        }
+        self.admit(kind, values)?;
         let id = self.next;
         let fact = Fact { id, kind, values };
         let _added = self.store.add(fact);
@@ -68,8 +64,8 @@ impl<S: Store, H: Host, O: Order> Run<S, H, O> {
     // Whether a fact may be handed in.
     fn admit(&self, kind: Kind, values: Values) -> Result<(), Refusal>
         ensures place { OnOk result (vec_len self.now.roll < 1024) }
-        ensures row { Standing S.Store.sound S.Store.live self.now → OnOk result (length (S.Store.live self.now.store) < S.Store.rows self.now.store) }
-        ensures value { Standing S.Store.sound S.Store.live self.now → result ≡ told (hand_in (setup_of S.Store.rows H.Host.value H.Host.says H.Host.works O.Order.rank O.Order.better self.now) (state_of S.Store.live self.now) kind values) }
+        ensures row { Standing S.Store self.now → OnOk result (length (S.Store.live self.now.store) < S.Store.rows self.now.store) }
+        ensures value { Standing S.Store self.now → result ≡ told (hand_in (setup S.Store H.Host O.Order self.now) (state S.Store self.now) kind values) }
     {
         if self.failed {
             return Err(Refusal::Failed);
@@ -77,9 +73,7 @@ impl<S: Store, H: Host, O: Order> Run<S, H, O> {
         if kind as usize >= KINDS {
             return Err(Refusal::OutOfRange);
         }
-        let Some(arity) = self.book.arity(kind) else {
-            return Err(Refusal::NotDeclared);
-        };
+        let arity = self.book.arity(kind).ok_or(Refusal::NotDeclared)?;
         if !unused_clear(arity, &values) {
             return Err(Refusal::UnusedFilled);
         }
@@ -100,20 +94,8 @@ impl<S: Store, H: Host, O: Order> Run<S, H, O> {
 fn used_are_values<H: Host>(host: &H, arity: u8, values: &[Value]) -> bool
     ensures value { result ≡ all (H.Host.value host.now) (take arity values.now) }
 {
-    let used = arity as usize;
-    if used >= values.len() {
-        return all_values(host, values);
-    }
-    all_values(host, &values[0..used])
-}
-
-fn all_values<H: Host>(host: &H, values: &[Value]) -> bool
-    ensures value { result ≡ all (H.Host.value host.now) values.now }
-{
-    for i in 0..values.len() {
-        if !host.is_value(values[i]) {
-            return false;
-        }
-    }
-    true
+    values
+        .iter()
+        .take(arity as usize)
+        .all(|value| host.is_value(*value))
 }

@@ -1,5 +1,6 @@
 ghost use Rattle.std.specs.Prelude.{◌≡◌, ◌++◌};
 ghost use Rattle.few.specs.Few.{listed};
+ghost use Rattle.firing.specs.Changes.{Changes};
 ghost use Rattle.firing.specs.Room.{Room};
 ghost use Rattle.meaning.specs.Firing.{taken_ids, taking_off, numbered_from};
 
@@ -12,9 +13,7 @@ use store::Store;
 
 /// Takes the heads that are taken, then adds the body facts under the next ids.
 pub fn change_store<S: Store>(store: &mut S, rule: &Rule, ids: [Id; 4], body: &[Written], next: Id)
-    ensures sound { S.Store.sound store.old → S.Store.sound store.new }
-    ensures live { S.Store.sound store.old → Room (taking_off (taken_ids (listed rule.now.heads) ids) (S.Store.live store.old)) (S.Store.rows store.old) next body.now → S.Store.live store.new ≡ taking_off (taken_ids (listed rule.now.heads) ids) (S.Store.live store.old) ++ numbered_from next body.now }
-    ensures rows { S.Store.rows store.new ≡ S.Store.rows store.old }
+    ensures changed { Changes S.Store store.old store.new (λ live. let rest = taking_off (taken_ids (listed rule.now.heads) ids) (S.Store.live store.old) in Room rest (S.Store.rows store.old) next body.now → live ≡ rest ++ numbered_from next body.now) }
 {
     take_heads(store, rule.heads.as_slice(), ids);
     write_body(store, body, next);

@@ -9,6 +9,7 @@ use crate::run::Run;
 use host::host::Host;
 use meaning::answers::{Sight, Stepped};
 use meaning::refusal::Refusal;
+use meaning::roll::Firing;
 use order::order::Order;
 use store::Store;
 
@@ -17,7 +18,7 @@ impl<S: Store, H: Host, O: Order> Run<S, H, O> {
     /// failed run too.
     pub fn choose(self) -> Chosen<S, H, O>
         ensures run { result.run ≡ self }
-        ensures holds { Standing S.Store.sound S.Store.live self → Holds S.Store H.Host O.Order result }
+        ensures holds { Standing S.Store self → Holds S.Store H.Host O.Order result }
     {
         let held = self.look();
         Chosen { run: self, held }
@@ -34,7 +35,7 @@ impl<S: Store, H: Host, O: Order> Run<S, H, O> {
                 rule,
                 ids,
                 refusal: _,
-            } => self.fire(rule, ids),
+            } => self.fire(Firing { rule, ids }),
         }
     }
 }
@@ -52,8 +53,7 @@ impl<S: Store, H: Host, O: Order> Chosen<S, H, O> {
         ensures same { setup S.Store H.Host O.Order result.0 ≡ setup S.Store H.Host O.Order self.run }
         ensures does { Holds S.Store H.Host O.Order self → Does S.Store H.Host O.Order self.run call.ChooseAndFire result.0 (answer.ChooseAndFire self.held result.1) }
     {
-        let Chosen { run, held } = self;
-        let mut run = run;
+        let Chosen { mut run, held } = self;
         let stepped = run.carry_out(held);
         (run, stepped)
     }

@@ -10,10 +10,10 @@ ghost use Rattle.run.specs.Runs.{setup, state, Standing, Does};
 use crate::clear::clear_firing;
 use crate::run::Run;
 use crate::steps::numbered;
-use facts::Id;
 use host::host::Host;
 use meaning::answers::Sight;
 use meaning::refusal::Refusal;
+use meaning::roll::Firing;
 use order::order::Order;
 use store::Store;
 
@@ -22,27 +22,34 @@ impl<S: Store, H: Host, O: Order> Run<S, H, O> {
     /// refused.
     pub fn look(&self) -> Result<Sight, Refusal>
         ensures does { Does S.Store H.Host O.Order self.now call.Look self.now (answer.Look result) }
-        ensures looks { Standing S.Store.sound S.Store.live self.now → LooksTo (setup S.Store H.Host O.Order self.now) (state S.Store self.now) result }
+        ensures looks { Standing S.Store self.now → LooksTo (setup S.Store H.Host O.Order self.now) (state S.Store self.now) result }
     {
         if self.failed {
             return Err(Refusal::Failed);
         }
         match self.due() {
             None => Ok(Sight::Final),
-            Some(due) => Ok(Sight::Due {
-                rule: due.rule,
-                ids: due.ids,
-                refusal: self.refusal_of(due.rule, due.ids),
-            }),
+            Some(due) => {
+                let ids = due.ids;
+                let firing = Firing {
+                    rule: due.rule,
+                    ids,
+                };
+                Ok(Sight::Due {
+                    rule: due.rule,
+                    ids,
+                    refusal: self.refusal_of(firing),
+                })
+            }
         }
     }
 
     // Why the firing of an instance would be refused, if it would.
-    fn refusal_of(&self, number: u8, ids: [Id; 4]) -> Option<Refusal>
-        ensures value { Standing S.Store.sound S.Store.live self.now → Fireable (setup S.Store H.Host O.Order self.now) (state S.Store self.now) number ids → result ≡ result_err (fire (setup S.Store H.Host O.Order self.now) (state S.Store self.now) number ids) }
+    fn refusal_of(&self, firing: Firing) -> Option<Refusal>
+        ensures value { Standing S.Store self.now → Fireable (setup S.Store H.Host O.Order self.now) (state S.Store self.now) firing → result ≡ result_err (fire (setup S.Store H.Host O.Order self.now) (state S.Store self.now) firing.rule firing.ids) }
     {
+        let rule = numbered(self.book.rules(), firing.rule)?;
         let rolled = self.roll.len();
-        let rule = numbered(self.book.rules(), number)?;
-        clear_firing(&self.store, &self.host, rolled, rule, number, ids).err()
+        clear_firing(&self.store, &self.host, rolled, rule, firing).err()
     }
 }

@@ -1,7 +1,7 @@
 ghost use Rattle.std.specs.Prelude.{◌≡◌, ◌≤◌, [], IfOk, vec_len, vec_capacity, MatchResult};
 ghost use Rattle.book.specs.Books.{book_of};
 ghost use Rattle.meaning.specs.Setup.{opening};
-ghost use Rattle.run.specs.Runs.{setting, setup_of, state_of, Standing, Stands};
+ghost use Rattle.run.specs.Runs.{setting_on, setup, state, Standing, Stands};
 
 use crate::run::Run;
 use book::book::Book;
@@ -12,6 +12,7 @@ use std::alloc::{AllocError, Global};
 use store::Store;
 
 /// No memory for a roll: everything is handed back.
+// Kept for this alone: elsewhere book, store, host and order are named one by one, and part at once.
 #[derive(Drop)]
 pub struct Unopened<S, H, O> {
     pub book: Book,
@@ -21,6 +22,7 @@ pub struct Unopened<S, H, O> {
 }
 
 /// An empty roll with room for all its places, claimed before a run is opened.
+// Kept as a type of its own: of the other lists with room, one has its size at run time, one is filled.
 #[derive(Drop)]
 pub struct BlankRoll {
     entries: Vec<Entry>,
@@ -45,36 +47,32 @@ impl<S: Store, H: Host, O: Order> Run<S, H, O> {
     pub fn open(
         heap: Global,
         book: Book,
-        store: S,
+        mut store: S,
         host: H,
         order: O,
     ) -> Result<Run<S, H, O>, Unopened<S, H, O>>
         ensures opened { MatchResult result
-            (λ run. (setup_of S.Store.rows H.Host.value H.Host.says H.Host.works O.Order.rank O.Order.better run ≡ setting (book_of book) (S.Store.rows store) (H.Host.value host) (H.Host.says host) (H.Host.works host) (O.Order.rank order) (O.Order.better order)) × (state_of S.Store.live run ≡ opening) × Standing S.Store.sound S.Store.live run)
+            (λ run. (setup S.Store H.Host O.Order run ≡ setting_on S.Store H.Host O.Order (book_of book) store host order) × (state S.Store run ≡ opening) × Standing S.Store run)
             (λ u. (u.book ≡ book) × (u.host ≡ host) × (u.order ≡ order) × (S.Store.rows u.store ≡ S.Store.rows store) × S.Store.sound u.store × (S.Store.live u.store ≡ [])) }
     {
-        match BlankRoll::claim(heap) {
-            Ok(roll) => Ok(Run::start(roll, book, store, host, order)),
-            Err(_) => {
-                let mut store = store;
-                store.clear();
-                Err(Unopened {
-                    book,
-                    store,
-                    host,
-                    order,
-                })
-            }
-        }
+        let Ok(roll) = BlankRoll::claim(heap) else {
+            store.clear();
+            return Err(Unopened {
+                book,
+                store,
+                host,
+                order,
+            });
+        };
+        Ok(Run::start(roll, book, store, host, order))
     }
 
     /// Opens a run on a roll that was claimed: the store is cleared, the roll is empty, and the first
     /// id will be 1.
-    pub fn start(roll: BlankRoll, book: Book, store: S, host: H, order: O) -> Run<S, H, O>
+    pub fn start(roll: BlankRoll, book: Book, mut store: S, host: H, order: O) -> Run<S, H, O>
         ensures stands { Stands S.Store H.Host O.Order (book_of book) store host order [] result [] }
     {
         let BlankRoll { entries } = roll;
-        let mut store = store;
         store.clear();
         Run {
             book,
@@ -93,15 +91,7 @@ impl<S: Store, H: Host + Drop, O: Order + Drop> Run<S, H, O> {
     pub fn into_store(self) -> S
         ensures value { result ≡ self.store }
     {
-        let Run {
-            book: _,
-            store,
-            host: _,
-            order: _,
-            roll: _,
-            next: _,
-            failed: _,
-        } = self;
+        let Run { store, .. } = self;
         store
     }
 }

@@ -10,6 +10,8 @@ use store::Store;
 /// A book at work: its store, host and order, the roll of what was done, and the next id.
 ///
 /// It cannot be copied. The room for the roll is claimed before it is opened.
+// Kept as the premise `Standing` of the clauses: a ghost field can only say that a proof that the store is
+// sound exists, and each clause would owe a proof that it holds in one way.
 #[derive(Drop)]
 pub struct Run<S: Store, H: Host, O: Order> {
     pub(crate) book: Book,

@@ -18,18 +18,16 @@ impl<S: Store, H: Host, O: Order> Run<S, H, O> {
     /// place of the roll.
     pub fn run(&mut self, n: u32) -> Ran
         ensures does { Does S.Store H.Host O.Order self.old (call.Run n) self.new (answer.Run result) }
-        ensures runs { Standing S.Store.sound S.Store.live self.old → RunsTo (setup S.Store H.Host O.Order self.old) (state S.Store self.old) n (state S.Store self.new) result }
+        ensures runs { Standing S.Store self.old → RunsTo (setup S.Store H.Host O.Order self.old) (state S.Store self.old) n (state S.Store self.new) result }
     {
-        let mut fired = 0;
-        while fired < n {
+        for fired in 0..n {
             let stepped = self.step();
             if !has_fired(stepped) {
                 return ended(fired, stepped);
             }
-            fired += 1;
         }
         Ran {
-            firings: fired,
+            firings: n,
             ending: Ending::Count,
         }
     }
@@ -39,10 +37,7 @@ impl<S: Store, H: Host, O: Order> Run<S, H, O> {
 fn has_fired(stepped: Result<Stepped, Refusal>) -> bool
     ensures value { result ≡ answers_fired stepped }
 {
-    match stepped {
-        Ok(Stepped::Fired) => true,
-        _ => false,
-    }
+    matches!(stepped, Ok(Stepped::Fired))
 }
 
 // The answer of a run in which so many steps fired and the last one answered otherwise; a firing that

@@ -7,13 +7,13 @@ ghost use Rattle.meaning.specs.declared.answers.Stepped.TheVariants as stepped;
 ghost use Rattle.run.specs.Clearing.{Fireable, FiresTo};
 ghost use Rattle.tally.specs.declared.answers.Answer.TheVariants as answer;
 ghost use Rattle.tally.specs.declared.calls.Call.TheVariants as call;
-ghost use Rattle.run.specs.Runs.{setup_of, state_of, setup, state, Standing, Does};
+ghost use Rattle.run.specs.Runs.{setup, state, Standing, Does};
 
 use crate::change::change_store;
 use crate::clear::clear_firing;
 use crate::run::Run;
-use facts::Id;
 use host::host::Host;
+use matching::grounds::Grounds;
 use meaning::answers::Stepped;
 use meaning::due::Due;
 use meaning::refusal::Refusal;
@@ -26,9 +26,7 @@ use store::Store;
 impl<S: Store, H: Host, O: Order> Run<S, H, O> {
     /// Fires the due instance, if any; refused, it changes nothing, and the instance stays due.
     pub fn step(&mut self) -> Result<Stepped, Refusal>
-        ensures kept { setup_of S.Store.rows H.Host.value H.Host.says H.Host.works O.Order.rank O.Order.better self.new ≡ setup_of S.Store.rows H.Host.value H.Host.says H.Host.works O.Order.rank O.Order.better self.old }
-        ensures standing { Standing S.Store.sound S.Store.live self.old → Standing S.Store.sound S.Store.live self.new }
-        ensures steps { Standing S.Store.sound S.Store.live self.old → StepsTo (setup_of S.Store.rows H.Host.value H.Host.says H.Host.works O.Order.rank O.Order.better self.old) (state_of S.Store.live self.old) (state_of S.Store.live self.new) result }
+        ensures steps { Standing S.Store self.old → StepsTo (setup S.Store H.Host O.Order self.old) (state S.Store self.old) (state S.Store self.new) result }
         ensures does { Does S.Store H.Host O.Order self.old call.Step self.new (answer.Step result) }
     {
         if self.failed {
@@ -36,38 +34,50 @@ impl<S: Store, H: Host, O: Order> Run<S, H, O> {
         }
         match self.due() {
             None => Ok(Stepped::Final),
-            Some(due) => self.fire(due.rule, due.ids),
+            Some(due) => {
+                let ids = due.ids;
+                self.fire(Firing {
+                    rule: due.rule,
+                    ids,
+                })
+            }
         }
     }
 
     // The due instance.
     pub(crate) fn due(&self) -> Option<Due<O::Rank>>
-        ensures value { Standing S.Store.sound S.Store.live self.now → result ≡ due_of (setup S.Store H.Host O.Order self.now) (state S.Store self.now) }
+        ensures value { Standing S.Store self.now → result ≡ due_of (setup S.Store H.Host O.Order self.now) (state S.Store self.now) }
     {
-        due_instance(
-            &self.store,
-            &self.host,
-            &self.order,
-            &self.book,
-            self.roll.as_slice(),
-        )
+        let roll = self.roll.as_slice();
+        let grounds = Grounds {
+            store: &self.store,
+            host: &self.host,
+            order: &self.order,
+            roll,
+        };
+        due_instance(&grounds, &self.book)
     }
 
     // Fires an instance, or says why it is refused.
-    pub(crate) fn fire(&mut self, number: u8, ids: [Id; 4]) -> Result<Stepped, Refusal>
-        ensures kept { setup_of S.Store.rows H.Host.value H.Host.says H.Host.works O.Order.rank O.Order.better self.new ≡ setup_of S.Store.rows H.Host.value H.Host.says H.Host.works O.Order.rank O.Order.better self.old }
-        ensures standing { Standing S.Store.sound S.Store.live self.old → Fireable (setup_of S.Store.rows H.Host.value H.Host.says H.Host.works O.Order.rank O.Order.better self.old) (state_of S.Store.live self.old) number ids → Standing S.Store.sound S.Store.live self.new }
-        ensures fires { Standing S.Store.sound S.Store.live self.old → Fireable (setup_of S.Store.rows H.Host.value H.Host.says H.Host.works O.Order.rank O.Order.better self.old) (state_of S.Store.live self.old) number ids → FiresTo (setup_of S.Store.rows H.Host.value H.Host.says H.Host.works O.Order.rank O.Order.better self.old) (state_of S.Store.live self.old) number ids (state_of S.Store.live self.new) result }
+    pub(crate) fn fire(&mut self, firing: Firing) -> Result<Stepped, Refusal>
+        ensures kept { setup S.Store H.Host O.Order self.new ≡ setup S.Store H.Host O.Order self.old }
+        ensures standing { Standing S.Store self.old → Fireable (setup S.Store H.Host O.Order self.old) (state S.Store self.old) firing → Standing S.Store self.new }
+        ensures fires { Standing S.Store self.old → Fireable (setup S.Store H.Host O.Order self.old) (state S.Store self.old) firing → FiresTo (setup S.Store H.Host O.Order self.old) (state S.Store self.old) firing (state S.Store self.new) result }
     {
-        let rolled = self.roll.len();
-        let Some(rule) = numbered(self.book.rules(), number) else {
+        let Some(rule) = numbered(self.book.rules(), firing.rule) else {
             return Ok(Stepped::Final);
         };
-        let body = clear_firing(&self.store, &self.host, rolled, rule, number, ids)?;
+        let rolled = self.roll.len();
+        let body = clear_firing(&self.store, &self.host, rolled, rule, firing)?;
         let fails = rule.fails;
-        change_store(&mut self.store, rule, ids, body.as_slice(), self.next);
-        self.roll
-            .push_reserved(Entry::Fired(Firing { rule: number, ids }));
+        change_store(
+            &mut self.store,
+            rule,
+            firing.ids,
+            body.as_slice(),
+            self.next,
+        );
+        self.roll.push_reserved(Entry::Fired(firing));
         self.next += body.len() as u32;
         self.failed = fails;
         Ok(answer(fails))
@@ -78,11 +88,7 @@ impl<S: Store, H: Host, O: Order> Run<S, H, O> {
 pub(crate) fn numbered(rules: &[Rule], number: u8) -> Option<&Rule>
     ensures value { MatchOption result ((0 < number → number ≤ length rules.now → ⊥)) (λ rule. rule_of rule.now ≡ rule_at (map rule_of rules.now) number) }
 {
-    let count = number as usize;
-    if count == 0 || count > rules.len() {
-        return None;
-    }
-    Some(&rules[count - 1])
+    rules.get((number as usize).checked_sub(1)?)
 }
 
 fn answer(fails: bool) -> Stepped

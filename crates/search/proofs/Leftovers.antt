@@ -38,7 +38,7 @@ module _ {R : Type 0} (s : Setup R) (t : State) (n : ℕ) (r : Rule) where
   by_tests false false d best e = refl
 
   -- one match is considered
-  pub offered_one : (best : Option (Due R)) (m : Match) → offered s t n r best (m ∷ []) ≡ considered s.says s.rank s.better t.roll n r (padded m.ids) m.env best
+  pub offered_one : (best : Option (Due R)) (m : Match) → offered s t n r best (m ∷ []) ≡ considered s t r (record { rule = n; ids = padded m.ids }) m.env best
   offered_one best m =
       by_tests (all (applies s t m.env) r.guards && not (fired t.roll n (padded m.ids)))
       (improving s.better (s.rank r.band (worth m.env r.rank)) best)

@@ -2,6 +2,5 @@ pub mod Lists
 pub mod Weights
 pub mod Leftovers
 pub mod Steps
-pub mod Advances
 pub mod Walked
 pub mod Sought

@@ -1,5 +1,6 @@
 -- Rule by rule: what is left gives the due instance.
 use Rattle.std.proofs.Common.{◌≡◌, ℕ, zero, suc, ◌+◌, ◌<◌, ◌≤◌, Bool, true, false, ◌&&◌, List, [], ◌∷◌, map, length, get_or, drop, Option, sym, refl, ap, ◌∙◌, subst, add-one, arith}
+use Rattle.std.proofs.lemmas.Bool.{and_parts}
 use Rattle.std.proofs.lemmas.List.{drop_more, drop_all}
 use Rattle.facts.specs.Positions.{all}
 use Rattle.rules.specs.Rules.{rule_of, closed, small, headed, parts_bound, bound}
@@ -13,23 +14,15 @@ use Rattle.meaning.specs.declared.due.Due.{Due}
 use Rattle.search.specs.Offers.{offered, sought}
 use Rattle.search.proofs.Lists.{folded_append}
 
-both_left : (a b : Bool) → a && b ≡ true → a ≡ true
-both_left true b e = refl
-both_left false b e = e
-
-both_right : (a b : Bool) → a && b ≡ true → b ≡ true
-both_right true b e = e
-both_right false b e = absurd (let z : ◌≡◌ {A = ℕ} 0 1 = cc in omega arith)
-
 all_at : {A B : Type 0} (test : B → Bool) (f : A → B) (xs : List A) (i : ℕ) (x : A) → all test (map f xs) ≡ true → i < length xs → x ≡ get_or xs i x → test (f x) ≡ true
 all_at test f [] i x e h g = absurd (omega arith)
-all_at test f (y ∷ ys) zero x e h g = ap (λ z. test (f z)) g ∙ both_left (test (f y)) (all test (map f ys)) e
-all_at test f (y ∷ ys) (suc i) x e h g = all_at test f ys i x (both_right (test (f y)) (all test (map f ys)) e) (omega arith) g
+all_at test f (y ∷ ys) zero x e h g = ap (λ z. test (f z)) g ∙ (and_parts (test (f y)) (all test (map f ys)) e).0
+all_at test f (y ∷ ys) (suc i) x e h g = all_at test f ys i x ((and_parts (test (f y)) (all test (map f ys)) e).1) (omega arith) g
 
 -- a rule of a book has a head
 pub rule_headed : (rules : List RuleData) (i : ℕ) (rule : RuleData) → all closed (map rule_of rules) ≡ true → i < length rules → rule ≡ get_or rules i rule → headed (rule_of rule) ≡ true
 rule_headed rules i rule e h g =
-    both_left (headed (rule_of rule)) (parts_bound (rule_of rule) && bound (rule_of rule).heads (rule_of rule).rank) (all_at closed rule_of rules i rule e h g)
+    (and_parts (headed (rule_of rule)) (parts_bound (rule_of rule) && bound (rule_of rule).heads (rule_of rule).rank) (all_at closed rule_of rules i rule e h g)).0
 
 module _ {R : Type 0} (s : Setup R) (t : State) (rules : List RuleData) (i : ℕ) (best : Option (Due R)) (all_of : Option (Due R))
     (left : sought s t best (i + 1) (map rule_of (drop i rules)) ≡ all_of) where

@@ -6,7 +6,6 @@
 --     level_after l j p       the level of the next head, with the partner p for the head at place j
 --     Blank j l               the ids of l are those of the heads before place j, and 0 from there on
 --     weight k ls             falls with every step of the search
---     levels_of w             the levels that have been reached
 --     Advanced ..             a step of the search: what is left gives the same answer
 use Rattle.std.specs.Prelude.{◌≡◌, ℕ, suc, ◌+◌, ◌-◌, ◌*◌, ◌^◌, false, List, [], ◌∷◌, ◌++◌, take, drop, Option, slice_index_or, slice_set}
 use Rattle.std.specs.List.{flat_map}
@@ -20,7 +19,6 @@ use Rattle.rules.specs.Rules.{Rule}
 use Rattle.matching.specs.declared.partner.Partner.{Partner}
 use Rattle.store.specs.Store.{since}
 use Rattle.search.specs.declared.walk.Level.{Level}
-use Rattle.search.specs.declared.walk.Walk.{Walk}
 use Rattle.search.specs.Offers.{offered}
 
 abbrev pub no_head : Head
@@ -58,9 +56,6 @@ digit l = suc (4294967296 - l.from)
 abbrev pub weight : ℕ → List Level → ℕ
 weight k [] = 0
 weight k (l ∷ ls) = digit l * 4294967298 ^ k + weight (k - 1) ls
-
-abbrev pub levels_of : Walk → List Level
-levels_of w = take w.count w.levels
 
 -- a step: what is left gives the same answer
 pub record Advanced {R : Type 0} (s : Setup R) (t : State) (n : ℕ) (r : Rule) (was is : List Level) (best after : Option (Due R)) : Type 0 where

@@ -1,33 +1,37 @@
 ghost use Rattle.std.specs.Prelude.{◌≡◌};
 ghost use Rattle.book.specs.Books.{book_of};
+ghost use Rattle.matching.specs.Grounds.{asking_of, seeing_of};
 ghost use Rattle.matching.specs.Parts.{Ready};
 ghost use Rattle.meaning.specs.Enumeration.{due_of};
 ghost use Rattle.meaning.specs.Instances.{DueIs};
-ghost use Rattle.search.specs.Offers.{asking, seeing};
 
-use crate::walk::over::best_of_rule;
+use crate::walk::RuleSearch;
 use book::book::Book;
 use host::host::Host;
+use matching::grounds::Grounds;
 use meaning::due::Due;
-use meaning::roll::Entry;
 use order::order::Order;
 use store::Store;
 
 /// The due instance: the best of those that wait, and of level ones the first by rule and ids.
-pub fn due_instance<S: Store, H: Host, O: Order>(
-    store: &S,
-    host: &H,
-    order: &O,
-    book: &Book,
-    roll: &[Entry],
+pub fn due_instance<'a, S: Store, H: Host, O: Order>(
+    grounds: &'a Grounds<'a, S, H, O>,
+    book: &'a Book,
 ) -> Option<Due<O::Rank>>
-    ensures value { Ready S.Store.sound S.Store.live store.now → result ≡ due_of (asking (H.Host.says host.now) (O.Order.rank order.now) (O.Order.better order.now) (book_of book.now).rules) (seeing (S.Store.live store.now) roll.now) }
-    ensures due { Ready S.Store.sound S.Store.live store.now → DueIs (asking (H.Host.says host.now) (O.Order.rank order.now) (O.Order.better order.now) (book_of book.now).rules) (seeing (S.Store.live store.now) roll.now) result }
+    ensures value { Ready S.Store grounds.now.store.now → result ≡ due_of (asking_of H.Host O.Order grounds.now (book_of book.now).rules) (seeing_of S.Store grounds.now) }
+    ensures due { Ready S.Store grounds.now.store.now → DueIs (asking_of H.Host O.Order grounds.now (book_of book.now).rules) (seeing_of S.Store grounds.now) result }
 {
     let rules = book.rules();
     let mut best = None;
+    // Kept as a loop by number, a required form: rules are numbered in file order while instances are sought.
     for (i, rule) in rules.iter().enumerate() {
-        best = best_of_rule(store, host, order, roll, (i + 1) as u8, rule, best);
+        let number = (i + 1) as u8;
+        let search = RuleSearch {
+            grounds,
+            number,
+            rule,
+        };
+        best = search.best(best);
     }
     best
 }

@@ -1,8 +1,14 @@
 -- Places in a list of facts in rising id: what a search by halves goes by, and what stands there.
-use Rattle.std.proofs.Common.{◌≡◌, ℕ, zero, suc, ◌+◌, ◌-◌, ◌<◌, ◌≤◌, Bool, true, false, cond, ◌&&◌, eqb, ltb, leb, List, [], ◌∷◌, ◌++◌, length, get_or, take, drop, Some, None, Option, sym, refl, ap, ◌∙◌, zero-le, arith}
+use Rattle.std.proofs.Common.{◌≡◌, ◌==◌, ◌||◌, ◌⊎◌, inl, inr, ℕ, zero, suc, ◌-◌, ◌<◌, ◌≤◌, Bool, true, false, cond, ◌&&◌, eqb, ltb, leb, List, [], ◌∷◌, ◌++◌, length, get_or, take, drop, Some, None, Option, Bor, sym, refl, ap, ◌∙◌, zero-le, arith}
+use Rattle.std.specs.List as list
 use Rattle.std.specs.List.{remove}
-use Rattle.std.proofs.lemmas.List.{at_drop_more, at_drop_all, take_rest}
-use Rattle.std.proofs.lemmas.Bool.{both_ways, and_from, and_parts, eqb-true, ltb-true, ltb-false, lt-ltb, le-ltb, lt-leb, ne_eqb, eq-eqb, cond-true, cond-false, and_left}
+use Rattle.std.specs.List.Sorted.{IsNonDecreasingBy, IsPartitionedBy, IsPartitionPoint}
+use Rattle.std.specs.Option.{option_map, MatchOption}
+use Rattle.std.specs.Bool.{then_some}
+use Rattle.std.proofs.lemmas.List.Sorted.{IsPartitionedBy-ltb}
+use Rattle.std.proofs.lemmas.List.Sums.{prefix_len_passes, prefix_len_stops, prefix_len_is}
+use Rattle.std.proofs.lemmas.List.{take_rest}
+use Rattle.std.proofs.lemmas.Bool.{both_ways, and_from, and_parts, or_cases, leb-true, le-ltb, eqb-true, ltb-true, ltb-false, lt-ltb, lt-leb, le-leb, ne_eqb, eq-eqb, cond-true, cond-false, and_left}
 use Rattle.facts.specs.declared.Fact.{Fact}
 use Rattle.store.specs.Store.{find, without, next_of, rises, Above, Beneath, Rising}
 use Rattle.store.specs.Spots.{place, blank, Spot, Absent}
@@ -18,51 +24,71 @@ above_getD [] id i d a l = absurd (omega arith)
 above_getD (f ∷ fs) id zero d a l = a.0
 above_getD (f ∷ fs) id (suc i) d a l = above_getD fs id i d a.1 (omega arith)
 
+rising_orders : (fs : List Fact) → Rising fs → IsNonDecreasingBy (λ (f : Fact). f.id) fs
+rising_orders [] r i j d l h = absurd (omega arith)
+rising_orders (f ∷ fs) r zero zero d l h = omega arith
+rising_orders (f ∷ fs) r zero (suc j) d l h = let b = beneath_getD fs f.id j d r.0 (omega arith) in omega arith
+rising_orders (f ∷ fs) r (suc i) zero d l h = absurd (omega arith)
+rising_orders (f ∷ fs) r (suc i) (suc j) d l h = rising_orders fs r.1 i j d (omega arith) (omega arith)
+
+-- the facts under an id stand before the others
+pub rising_parts : (fs : List Fact) (id : ℕ) → Rising fs → IsPartitionedBy (λ (f : Fact). ltb f.id id) fs
+rising_parts fs id r = IsPartitionedBy-ltb (λ (f : Fact). f.id) fs id (rising_orders fs r)
+
 -- Place.
 
-place_next : (f : Fact) (fs : List Fact) (id : ℕ) → f.id < id → place id (f ∷ fs) ≡ suc (place id fs)
-place_next f fs id l = cond-true (ltb f.id id) (suc (place id fs)) 0 (lt-ltb f.id id l)
+-- what stands before it has a smaller id
+before_place : (fs : List Fact) (id i : ℕ) → i < place id fs → (get_or fs i blank).id < id
+before_place fs id i l = ltb-true _ _ (prefix_len_passes (λ (f : Fact). ltb f.id id) fs i blank l)
 
-place_here : (f : Fact) (fs : List Fact) (id : ℕ) → id ≤ f.id → place id (f ∷ fs) ≡ 0
-place_here f fs id l = cond-false (ltb f.id id) (suc (place id fs)) 0 (le-ltb f.id id l)
+-- and what stands there has not
+at_place : (fs : List Fact) (id : ℕ) → place id fs < length fs → id ≤ (get_or fs (place id fs) blank).id
+at_place fs id l = ltb-false _ _ (prefix_len_stops (λ (f : Fact). ltb f.id id) fs blank l)
 
-pub place_within : (fs : List Fact) (id : ℕ) → place id fs ≤ length fs
-place_within [] id = zero-le
-place_within (f ∷ fs) id = go (ltb f.id id) (place_within fs id) where
-  go : (b : Bool) → place id fs ≤ length fs → cond b (suc (place id fs)) 0 ≤ suc (length fs)
-  go true l = omega arith
-  go false l = zero-le
+-- a search by halves finds it
+pub place_from_point : (fs : List Fact) (id at : ℕ) → at ≤ length fs → IsPartitionPoint (λ (f : Fact). ltb f.id id ≡ true) (λ (f : Fact). ltb f.id id ≡ false) fs at → at ≡ place id fs
+place_from_point fs id at l p =
+    sym (prefix_len_is (λ (f : Fact). ltb f.id id) fs at blank l (λ k h. p.0 k blank zero-le h) (λ h. p.1 at blank (omega arith) h))
 
-pub place_over : (fs : List Fact) (id i : ℕ) (d : Fact) → Rising fs → i < length fs → (get_or fs i d).id < id → i < place id fs
-place_over [] id i d r l h = absurd (omega arith)
-place_over (f ∷ fs) id zero d r l h = omega (arith, place_next f fs id h)
-place_over (f ∷ fs) id (suc i) d r l h =
-    let low = beneath_getD fs f.id i d r.0 (omega arith) in
-    let more = place_over fs id i d r.1 (omega arith) h in
-    omega (arith, place_next f fs id (omega arith))
+-- so does a guess, if what stands before it is below the id and what stands there is not
+pub place_from_guess : (fs : List Fact) (id at : ℕ) → Rising fs
+    → (at == 0 || ltb (at - 1) (length fs) && ltb (get_or fs (at - 1) blank).id id) ≡ true
+    → (leb (length fs) at || leb id (get_or fs at blank).id) ≡ true → at ≡ place id fs
+place_from_guess fs id at r before there =
+    sym (prefix_len_is (λ (f : Fact). ltb f.id id) fs at blank within passes stops)
+  where
+    before_is : (at ≡ 0) ⊎ ((at - 1 < length fs) × ((get_or fs (at - 1) blank).id < id))
+    before_is =
+        elim (or_cases (at == 0) (ltb (at - 1) (length fs) && ltb (get_or fs (at - 1) blank).id id) before) [
+          | inl e ↦ inl (eqb-true at 0 e)
+          | inr e ↦ let p = and_parts (ltb (at - 1) (length fs)) (ltb (get_or fs (at - 1) blank).id id) e in inr (ltb-true (at - 1) (length fs) p.0, ltb-true (get_or fs (at - 1) blank).id id p.1)
+        ]
 
-pub place_under : (fs : List Fact) (id i : ℕ) (d : Fact) → i < length fs → id ≤ (get_or fs i d).id → place id fs ≤ i
-place_under [] id i d l h = absurd (omega arith)
-place_under (f ∷ fs) id zero d l h = omega (arith, place_here f fs id h)
-place_under (f ∷ fs) id (suc i) d l h = go (ltb f.id id) (place_under fs id i d (omega arith) h) where
-  go : (b : Bool) → place id fs ≤ i → cond b (suc (place id fs)) 0 ≤ suc i
-  go true l = omega arith
-  go false l = zero-le
+    within : at ≤ length fs
+    within = elim before_is [ inl e ↦ omega arith | inr b ↦ let l = b.0 in omega arith ]
 
-pub above_from_place : (fs : List Fact) (id : ℕ) → place id fs ≡ length fs → Above id fs
-above_from_place [] id e = tt
-above_from_place (f ∷ fs) id e = go (ltb f.id id) refl e (above_from_place fs id) where
-  go : (b : Bool) → ltb f.id id ≡ b → cond b (suc (place id fs)) 0 ≡ suc (length fs)
-      → (place id fs ≡ length fs → Above id fs) → (f.id < id) × Above id fs
-  go true t e rest = (ltb-true f.id id t, rest (omega arith))
-  go false t e rest = absurd (omega arith)
+    passes : (k : ℕ) → k < at → ltb (get_or fs k blank).id id ≡ true
+    passes k h =
+        elim before_is [
+          | inl e ↦ absurd (omega arith)
+          | inr b ↦ let o = rising_orders fs r k (at - 1) blank (omega arith) b.0 in let l = b.1 in lt-ltb _ _ (omega arith)
+        ]
+
+    stops : at < length fs → ltb (get_or fs at blank).id id ≡ false
+    stops h =
+        elim (or_cases (leb (length fs) at) (leb id (get_or fs at blank).id) there) [
+          | inl e ↦ let l = leb-true _ _ e in absurd (omega arith)
+          | inr e ↦ le-ltb _ _ (leb-true _ _ e)
+        ]
+
+above_from_each : (fs : List Fact) (id : ℕ) (d : Fact) → ((i : ℕ) → i < length fs → (get_or fs i d).id < id) → Above id fs
+above_from_each [] id d h = tt
+above_from_each (f ∷ fs) id d h = (h 0 (omega arith), above_from_each fs id d (λ i l. h (suc i) (omega arith)))
 
 -- an id above the last is above all
 pub above_from_last : (fs : List Fact) (id : ℕ) (d : Fact) → Rising fs → 0 < length fs → (get_or fs (length fs - 1) d).id < id → Above id fs
 above_from_last fs id d r l h =
-    let p = place_over fs id (length fs - 1) d r (omega arith) h in
-    let q = place_within fs id in
-    above_from_place fs id (omega arith)
+    above_from_each fs id d (λ i k. let m = rising_orders fs r i (length fs - 1) d (omega arith) (omega arith) in omega arith)
 
 -- so a fact under such an id may follow
 pub rises_push : (fs : List Fact) (f : Fact) → Rising fs → Above f.id fs → rises (fs ++ f ∷ []) ≡ true
@@ -70,16 +96,26 @@ rises_push fs f r a = test_from_rising (fs ++ f ∷ []) (rising_push fs f r a)
 
 -- What stands at a place.
 
-pub next_from_place : (fs : List Fact) (kind from : ℕ) → next_of kind from (drop (place from fs) fs) ≡ next_of kind from fs
-next_from_place [] kind from = refl
-next_from_place (f ∷ fs) kind from = go (ltb f.id from) refl (next_from_place fs kind from) where
-  go : (b : Bool) → ltb f.id from ≡ b → next_of kind from (drop (place from fs) fs) ≡ next_of kind from fs
-      → next_of kind from (drop (cond b (suc (place from fs)) 0) (f ∷ fs)) ≡ next_of kind from (f ∷ fs)
-  go true t e =
-      e
-      ∙ sym (cond-false (leb from f.id && eqb f.kind kind) (Some f.id) (next_of kind from fs)
-      (and_left (leb from f.id) (eqb f.kind kind) (lt-leb from f.id (ltb-true f.id from t))))
-  go false t e = refl
+next_skips : (fs : List Fact) (kind from i : ℕ) → ((k : ℕ) → k < i → (get_or fs k blank).id < from) → next_of kind from (drop i fs) ≡ next_of kind from fs
+next_skips fs kind from zero b = refl
+next_skips [] kind from (suc i) b = refl
+next_skips (f ∷ fs) kind from (suc i) b =
+    next_skips fs kind from i (λ k l. b (suc k) (omega arith))
+    ∙ sym (cond-false (leb from f.id && eqb f.kind kind) (Some f.id) (next_of kind from fs) (and_left (leb from f.id) (eqb f.kind kind) (lt-leb from f.id (b 0 (omega arith)))))
+
+next_unbound : (fs : List Fact) (kind from i : ℕ) → ((k : ℕ) → i ≤ k → k < length fs → from ≤ (get_or fs k blank).id) → next_of kind 0 (drop i fs) ≡ next_of kind from (drop i fs)
+next_unbound [] kind from zero h = refl
+next_unbound [] kind from (suc i) h = refl
+next_unbound (f ∷ fs) kind from zero h =
+    ap (λ t. cond (t && eqb f.kind kind) (Some f.id) (next_of kind 0 fs)) (le-leb 0 f.id zero-le ∙ sym (le-leb from f.id (h 0 zero-le (omega arith))))
+    ∙ ap (cond (leb from f.id && eqb f.kind kind) (Some f.id)) (next_unbound fs kind from zero (λ k l m. h (suc k) zero-le (omega arith)))
+next_unbound (f ∷ fs) kind from (suc i) h = next_unbound fs kind from i (λ k l m. h (suc k) (omega arith) (omega arith))
+
+-- from a place on all are at or above the id, and none before it is
+pub next_from_place : (fs : List Fact) (kind from : ℕ) → Rising fs → next_of kind 0 (drop (place from fs) fs) ≡ next_of kind from fs
+next_from_place fs kind from r =
+    next_unbound fs kind from (place from fs) (λ k l m. let a = at_place fs from (omega arith) in let o = rising_orders fs r (place from fs) k blank l m in omega arith)
+    ∙ next_skips fs kind from (place from fs) (before_place fs from)
 
 pub record At (id : ℕ) (fs : List Fact) (i : ℕ) : Type 0 where
   pub found : find id fs ≡ Some (get_or fs i blank)
@@ -103,58 +139,54 @@ at_from_id (f ∷ fs) id (suc i) r l e =
       rest = cond-false (eqb f.id id) (without id fs) (f ∷ without id fs) t ∙ ap (λ xs. f ∷ xs) s.rest;
     }
 
-pub none_from_place : (fs : List Fact) (id : ℕ) (d : Fact) → Rising fs → (place id fs < length fs → (get_or fs (place id fs) d).id ≡ id → ⊥) → find id fs ≡ None
-none_from_place [] id d r n = refl
-none_from_place (f ∷ fs) id d r n = go (ltb f.id id) refl n (none_from_place fs id d r.1) where
-  go : (b : Bool) → ltb f.id id ≡ b
-      → (cond b (suc (place id fs)) 0 < suc (length fs) → (get_or (f ∷ fs) (cond b (suc (place id fs)) 0) d).id ≡ id → ⊥)
-      → ((place id fs < length fs → (get_or fs (place id fs) d).id ≡ id → ⊥) → find id fs ≡ None)
-      → find id (f ∷ fs) ≡ None
-  go true t n rest =
-      let l = ltb-true f.id id t in
-      cond-false (eqb f.id id) (Some f) (find id fs) (ne_eqb f.id id (λ q. omega arith))
-      ∙ rest (λ h e. n (omega arith) e)
-  go false t n rest =
-      let l = ltb-false f.id id t in
-      let k : f.id ≡ id → ⊥ = n (omega arith) in
-      cond-false (eqb f.id id) (Some f) (find id fs) (ne_eqb f.id id k)
-      ∙ find_beneath fs id (beneath_lower fs id f.id l r.0)
+none_from_gap : (fs : List Fact) (id i : ℕ) → Rising fs → ((k : ℕ) → k < i → (get_or fs k blank).id < id) → (i < length fs → id < (get_or fs i blank).id) → find id fs ≡ None
+none_from_gap [] id i r b n = refl
+none_from_gap (f ∷ fs) id zero r b n =
+    let l = n (omega arith) in
+    find_beneath (f ∷ fs) id (l, beneath_lower fs id f.id (omega arith) r.0)
+none_from_gap (f ∷ fs) id (suc i) r b n =
+    let l = b 0 (omega arith) in
+    cond-false (eqb f.id id) (Some f) (find id fs) (ne_eqb f.id id (λ q. omega arith))
+    ∙ none_from_gap fs id i r.1 (λ k h. b (suc k) (omega arith)) (λ h. n (omega arith))
+
+pub none_from_place : (fs : List Fact) (id : ℕ) → Rising fs → (place id fs < length fs → (get_or fs (place id fs) blank).id ≡ id → ⊥) → find id fs ≡ None
+none_from_place fs id r n = none_from_gap fs id (place id fs) r (before_place fs id) (λ l. let k = at_place fs id l in let d = n l in omega arith)
 
 -- the same of a place that was searched for, by the test of what stands there
-pub spot_from_test : (fs : List Fact) (id at : ℕ) → Rising fs → (ltb at (length fs) && eqb (get_or fs at blank).id id) ≡ true → Spot id fs at
-spot_from_test fs id at r t =
-    let p = and_parts (ltb at (length fs)) (eqb (get_or fs at blank).id id) t in
-    let l = ltb-true at (length fs) p.0 in
-    let a = at_from_id fs id at r l (eqb-true (get_or fs at blank).id id p.1) in
-    record {
-      within = l;
-      found = a.found;
-      rest = a.rest;
-      rising = rw (← a.rest) (test_from_rising (without id fs) (rising_without fs id r));
-    }
-
-pub absent_from_test : (fs : List Fact) (id at : ℕ) → Rising fs → at ≡ place id fs → (ltb at (length fs) && eqb (get_or fs at blank).id id) ≡ false → Absent id fs
-absent_from_test fs id at r e t =
-    let none = none_from_place fs id blank r
-    (rw e at (λ (l : at < length fs) (q : (get_or fs at blank).id ≡ id). both_ways _ t (and_from _ _ (lt-ltb at (length fs) l) (eq-eqb (get_or fs at blank).id id q)))) in
-    record { found = none; rest = without_none fs id none }
+pub spot_from_place : (fs : List Fact) (id at : ℕ) → Rising fs → at ≡ place id fs → MatchOption (then_some (ltb at (length fs) && eqb (get_or fs at blank).id id) at) (Absent id fs) (λ i. Spot id fs i)
+spot_from_place fs id at r p = go (ltb at (length fs) && eqb (get_or fs at blank).id id) refl where
+  go : (b : Bool) → (ltb at (length fs) && eqb (get_or fs at blank).id id) ≡ b → MatchOption (then_some b at) (Absent id fs) (λ i. Spot id fs i)
+  go true t =
+      let q = and_parts (ltb at (length fs)) (eqb (get_or fs at blank).id id) t in
+      let l = ltb-true at (length fs) q.0 in
+      let a = at_from_id fs id at r l (eqb-true (get_or fs at blank).id id q.1) in
+      record {
+        within = l;
+        found = a.found;
+        rest = a.rest;
+        rising = rw (← a.rest) (test_from_rising (without id fs) (rising_without fs id r));
+      }
+  go false t =
+      let none = none_from_place fs id r
+      (rw p at (λ (l : at < length fs) (q : (get_or fs at blank).id ≡ id). both_ways _ t (and_from _ _ (lt-ltb at (length fs) l) (eq-eqb (get_or fs at blank).id id q)))) in
+      record { found = none; rest = without_none fs id none }
 
 -- what a scan from a place gives of the whole list
-pub next_scanned : (fs : List Fact) (kind from at : ℕ) (r : Option ℕ) → at ≡ place from fs → r ≡ next_of kind from (take (length fs - at) (drop at fs)) → r ≡ next_of kind from fs
-next_scanned fs kind from at r p q =
-    q ∙ ap (next_of kind from) (take_rest fs at) ∙ ap (λ i. next_of kind from (drop i fs)) p ∙ next_from_place fs kind from
+pub next_scanned : (fs : List Fact) (kind from at : ℕ) (r : Option ℕ) → Rising fs → at ≡ place from fs → r ≡ next_of kind 0 (take (length fs - at) (drop at fs)) → r ≡ next_of kind from fs
+next_scanned fs kind from at r rising p q =
+    q ∙ ap (next_of kind 0) (take_rest fs at) ∙ ap (λ i. next_of kind 0 (drop i fs)) p ∙ next_from_place fs kind from rising
 
--- A scan for a kind, one step on and at the end.
+-- A scan for a kind.
 
-pub next_there : (fs : List Fact) (kind from i : ℕ) → i < length fs → (leb from (get_or fs i blank).id && eqb (get_or fs i blank).kind kind) ≡ true → next_of kind from (drop i fs) ≡ Some (get_or fs i blank).id
-next_there fs kind from i l t =
-    at_drop_more (next_of kind from) fs i blank l
-    ∙ cond-true _ (Some (get_or fs i blank).id) (next_of kind from (drop (i + 1) fs)) t
+next_found : (fs : List Fact) (kind : ℕ) → option_map (λ (f : Fact). f.id) (list.find (λ (f : Fact). eqb f.kind kind) fs) ≡ next_of kind 0 fs
+next_found [] kind = refl
+next_found (f ∷ fs) kind = go (eqb f.kind kind) (next_found fs kind) ∙ ap (λ t. cond (t && eqb f.kind kind) (Some f.id) (next_of kind 0 fs)) (sym (le-leb 0 f.id zero-le)) where
+  go : (b : Bool) → option_map (λ (f : Fact). f.id) (list.find (λ (f : Fact). eqb f.kind kind) fs) ≡ next_of kind 0 fs
+      → option_map (λ (f : Fact). f.id) (cond b (Some f) (list.find (λ (f : Fact). eqb f.kind kind) fs)) ≡ cond b (Some f.id) (next_of kind 0 fs)
+  go true e = refl
+  go false e = e
 
-pub next_past : (fs : List Fact) (kind from i : ℕ) → i < length fs → (leb from (get_or fs i blank).id && eqb (get_or fs i blank).kind kind) ≡ false → next_of kind from (drop i fs) ≡ next_of kind from (drop (i + 1) fs)
-next_past fs kind from i l t =
-    at_drop_more (next_of kind from) fs i blank l
-    ∙ cond-false _ (Some (get_or fs i blank).id) (next_of kind from (drop (i + 1) fs)) t
-
-pub next_all : (fs : List Fact) (kind from i : ℕ) → length fs ≤ i → next_of kind from (drop i fs) ≡ None
-next_all fs kind from i l = at_drop_all (next_of kind from) fs i l
+-- so what the scan lends of the first gives the id
+pub next_lent : (fs : List Fact) (kind : ℕ) (r : Option (Bor Fact)) → option_map (λ (b : Bor Fact). b.now) r ≡ list.find (λ (f : Fact). eqb f.kind kind) fs → option_map (λ (b : Bor Fact). b.now.id) r ≡ next_of kind 0 fs
+next_lent fs kind None e = ap (option_map (λ (f : Fact). f.id)) e ∙ next_found fs kind
+next_lent fs kind (Some b) e = ap (option_map (λ (f : Fact). f.id)) e ∙ next_found fs kind

@@ -49,19 +49,13 @@ first f fs kind from = by_id (leb from f.id) refl where
       under (leb-false from f.id l)
       (cond-false (leb from f.id && eqb f.kind kind) (Some f.id) (next_of kind from fs) (and_left (leb from f.id) (eqb f.kind kind) l))
 
-some_id : (x y : ℕ) → ◌≡◌ {A = Option ℕ} (Some x) (Some y) → x ≡ y
-some_id x y e = cc
-
-some_fact : (x y : Fact) → ◌≡◌ {A = Option Fact} (Some x) (Some y) → x ≡ y
-some_fact x y e = cc
-
 pub next_at_least : (fs : List Fact) (kind from id : ℕ) → next_of kind from fs ≡ Some id → from ≤ id
-next_at_least [] kind from id e = absurd (let z : ◌≡◌ {A = ℕ} 0 1 = cc in omega arith)
+next_at_least [] kind from id e = cc
 next_at_least (f ∷ fs) kind from id e =
     elim (first f fs kind from) [
       | under l n ↦ next_at_least fs kind from id (sym n ∙ e)
       | other l k n ↦ next_at_least fs kind from id (sym n ∙ e)
-      | here l k n ↦ let s = some_id f.id id (sym n ∙ e) in omega arith
+      | here l k n ↦ let s : f.id ≡ id = cc in omega arith
     ]
 
 pub next_bound : (fs : List Fact) (kind from : ℕ) → AtLeast from (next_of kind from fs)
@@ -71,23 +65,23 @@ next_bound fs kind from = go (next_of kind from fs) refl where
   go (Some id) e = next_at_least fs kind from id e
 
 pub next_beneath : (fs : List Fact) (kind from id low : ℕ) → Beneath low fs → next_of kind from fs ≡ Some id → low < id
-next_beneath [] kind from id low b e = absurd (let z : ◌≡◌ {A = ℕ} 0 1 = cc in omega arith)
+next_beneath [] kind from id low b e = cc
 next_beneath (f ∷ fs) kind from id low b e =
     let h = b.0 in
     elim (first f fs kind from) [
       | under l n ↦ next_beneath fs kind from id low b.1 (sym n ∙ e)
       | other l k n ↦ next_beneath fs kind from id low b.1 (sym n ∙ e)
-      | here l k n ↦ let s = some_id f.id id (sym n ∙ e) in omega arith
+      | here l k n ↦ let s : f.id ≡ id = cc in omega arith
     ]
 
 pub next_under : (fs : List Fact) (kind from id high : ℕ) → Above high fs → next_of kind from fs ≡ Some id → id < high
-next_under [] kind from id high a e = absurd (let z : ◌≡◌ {A = ℕ} 0 1 = cc in omega arith)
+next_under [] kind from id high a e = cc
 next_under (f ∷ fs) kind from id high a e =
     let h = a.0 in
     elim (first f fs kind from) [
       | under l n ↦ next_under fs kind from id high a.1 (sym n ∙ e)
       | other l k n ↦ next_under fs kind from id high a.1 (sym n ∙ e)
-      | here l k n ↦ let s = some_id f.id id (sym n ∙ e) in omega arith
+      | here l k n ↦ let s : f.id ≡ id = cc in omega arith
     ]
 
 -- What next gives is the id of a live fact of the kind, at or above the one asked from.
@@ -103,56 +97,56 @@ met_later f fs kind from id l m =
     record { fact = m.fact; found = find_skip f fs id l ∙ m.found; named = m.named; kinded = m.kinded; at_least = m.at_least }
 
 pub next_met : (fs : List Fact) (kind from id : ℕ) → Rising fs → next_of kind from fs ≡ Some id → Met fs kind from id
-next_met [] kind from id r e = absurd (let z : ◌≡◌ {A = ℕ} 0 1 = cc in omega arith)
+next_met [] kind from id r e = cc
 next_met (f ∷ fs) kind from id r e =
     elim (first f fs kind from) [
       | under l n ↦ met_later f fs kind from id (next_beneath fs kind from id f.id r.0 (sym n ∙ e)) (next_met fs kind from id r.1 (sym n ∙ e))
       | other l k n ↦ met_later f fs kind from id (next_beneath fs kind from id f.id r.0 (sym n ∙ e)) (next_met fs kind from id r.1 (sym n ∙ e))
       | here l k n ↦
-          let s = some_id f.id id (sym n ∙ e) in
+          let s : f.id ≡ id = cc in
           record { fact = f; found = cond-true (eqb f.id id) (Some f) (find id fs) (eq-eqb f.id id s); named = s; kinded = k; at_least = omega arith }
     ]
 
 -- No smaller live id of the kind is at or above the one asked from.
 pub next_smallest : (fs : List Fact) (kind from id i : ℕ) (g : Fact) → Rising fs → next_of kind from fs ≡ Some id → find i fs ≡ Some g → g.kind ≡ kind → from ≤ i → id ≤ i
-next_smallest [] kind from id i g r e q k l = absurd (let z : ◌≡◌ {A = ℕ} 0 1 = cc in omega arith)
+next_smallest [] kind from id i g r e q k l = cc
 next_smallest (f ∷ fs) kind from id i g r e q k l = go (eqb f.id i) refl q (next_smallest fs kind from id i g r.1) where
   go : (b : Bool) → eqb f.id i ≡ b → cond b (Some f) (find i fs) ≡ Some g
       → (next_of kind from fs ≡ Some id → find i fs ≡ Some g → g.kind ≡ kind → from ≤ i → id ≤ i) → id ≤ i
   go true t q rest =
       let h = eqb-true f.id i t in
-      let s = some_fact f g q in
+      let s : f ≡ g = cc in
       elim (first f fs kind from) [
         | under u n ↦ absurd (omega arith)
-        | other u v n ↦ absurd (let c = eq-eqb f.kind kind (ap (λ (x : Fact). x.kind) s ∙ k) in let z : ◌≡◌ {A = Bool} true false = sym c ∙ v in let w : ◌≡◌ {A = ℕ} 0 1 = cc in omega arith)
-        | here u v n ↦ let w = some_id f.id id (sym n ∙ e) in omega arith
+        | other u v n ↦ absurd (let c = eq-eqb f.kind kind (ap (λ (x : Fact). x.kind) s ∙ k) in cc)
+        | here u v n ↦ let w : f.id ≡ id = cc in omega arith
       ]
   go false t q rest =
       elim (first f fs kind from) [
         | under u n ↦ rest (sym n ∙ e) q k l
         | other u v n ↦ rest (sym n ∙ e) q k l
-        | here u v n ↦ let w = some_id f.id id (sym n ∙ e) in let h = find_beneath_over fs i g f.id r.0 q in omega arith
+        | here u v n ↦ let w : f.id ≡ id = cc in let h = find_beneath_over fs i g f.id r.0 q in omega arith
       ]
 
 -- Where next gives none, no live fact of the kind is at or above the one asked from.
 pub next_none : (fs : List Fact) (kind from i : ℕ) (g : Fact) → next_of kind from fs ≡ None → find i fs ≡ Some g → g.kind ≡ kind → from ≤ i → ⊥
-next_none [] kind from i g e q k l = let z : ◌≡◌ {A = ℕ} 0 1 = cc in omega arith
+next_none [] kind from i g e q k l = cc
 next_none (f ∷ fs) kind from i g e q k l = go (eqb f.id i) refl q (next_none fs kind from i g) where
   go : (b : Bool) → eqb f.id i ≡ b → cond b (Some f) (find i fs) ≡ Some g
       → (next_of kind from fs ≡ None → find i fs ≡ Some g → g.kind ≡ kind → from ≤ i → ⊥) → ⊥
   go true t q rest =
       let h = eqb-true f.id i t in
-      let s = some_fact f g q in
+      let s : f ≡ g = cc in
       elim (first f fs kind from) [
         | under u n ↦ omega arith
-        | other u v n ↦ let c = eq-eqb f.kind kind (ap (λ (x : Fact). x.kind) s ∙ k) in let z : ◌≡◌ {A = Bool} true false = sym c ∙ v in let w : ◌≡◌ {A = ℕ} 0 1 = cc in omega arith
-        | here u v n ↦ let w : ◌≡◌ {A = ℕ} 0 1 = cc in omega arith
+        | other u v n ↦ let c = eq-eqb f.kind kind (ap (λ (x : Fact). x.kind) s ∙ k) in cc
+        | here u v n ↦ cc
       ]
   go false t q rest =
       elim (first f fs kind from) [
         | under u n ↦ rest (sym n ∙ e) q k l
         | other u v n ↦ rest (sym n ∙ e) q k l
-        | here u v n ↦ let w : ◌≡◌ {A = ℕ} 0 1 = cc in omega arith
+        | here u v n ↦ cc
       ]
 
 -- The walk: a list made of a part for each fact of a kind, from an id on.
@@ -160,7 +154,7 @@ next_none (f ∷ fs) kind from i g e q k l = go (eqb f.id i) refl q (next_none f
 module _ {A : Type 0} (G : Fact → List A) (kind : ℕ) (others : (f : Fact) → eqb f.kind kind ≡ false → G f ≡ []) where
   -- the part of the fact that next gives, and the rest from the id after it
   pub walk_more : (fs : List Fact) (from id : ℕ) (fact : Fact) → Rising fs → next_of kind from fs ≡ Some id → find id fs ≡ Some fact → flat_map G (since from fs) ≡ G fact ++ flat_map G (since (id + 1) fs)
-  walk_more [] from id fact r e q = absurd (let z : ◌≡◌ {A = ℕ} 0 1 = cc in omega arith)
+  walk_more [] from id fact r e q = cc
   walk_more (f ∷ fs) from id fact r e q =
       elim (first f fs kind from) [
         | under l n ↦
@@ -175,8 +169,8 @@ module _ {A : Type 0} (G : Fact → List A) (kind : ℕ) (others : (f : Fact) �
             ∙ walk_more fs from id fact r.1 (sym n ∙ e) (sym (find_skip f fs id h) ∙ q)
             ∙ ap (λ xs. G fact ++ flat_map G xs) (sym (since_skip f fs (id + 1) (omega arith)))
         | here l k n ↦
-            let s = some_id f.id id (sym n ∙ e) in
-            let t = some_fact f fact (sym (cond-true (eqb f.id id) (Some f) (find id fs) (eq-eqb f.id id s)) ∙ q) in
+            let s : f.id ≡ id = cc in
+            let t : f ≡ fact = cc (cond-true (eqb f.id id) (Some f) (find id fs) (eq-eqb f.id id s)) in
             ap (flat_map G) (cond-true (leb from f.id) (f ∷ since from fs) (since from fs) (le-leb from f.id l))
             ∙ ap (λ (x : Fact). G x ++ flat_map G (since from fs)) t
             ∙ ap (λ xs. G fact ++ flat_map G xs) (since_all fs from f.id (omega arith) r.0 ∙ sym (since_all fs (id + 1) f.id (omega arith) r.0) ∙ sym (since_skip f fs (id + 1) (omega arith)))
@@ -192,7 +186,7 @@ module _ {A : Type 0} (G : Fact → List A) (kind : ℕ) (others : (f : Fact) �
             ap (flat_map G) (cond-true (leb from f.id) (f ∷ since from fs) (since from fs) (le-leb from f.id l))
             ∙ ap (λ ys. ys ++ flat_map G (since from fs)) (others f k)
             ∙ walk_none fs from (sym n ∙ e)
-        | here l k n ↦ absurd (let z : ◌≡◌ {A = ℕ} 0 1 = cc in omega arith)
+        | here l k n ↦ cc
       ]
 
   -- all the parts from 0

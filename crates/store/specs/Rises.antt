@@ -85,12 +85,12 @@ without_none [] id e = refl
 without_none (f ∷ fs) id e = go (f.id == id) refl e (without_none fs id) where
   go : (b : Bool) → (f.id == id) ≡ b → cond b (Some f) (find id fs) ≡ None
       → (find id fs ≡ None → without id fs ≡ fs) → cond (f.id == id) (without id fs) (f ∷ without id fs) ≡ f ∷ fs
-  go true t e rest = absurd (let z : ◌≡◌ {A = ℕ} 0 1 = cc in omega arith)
+  go true t e rest = cc
   go false t e rest = rw t (ap (λ xs. f ∷ xs) (rest e))
 
 -- What find gives has that id.
 pub find_id : (fs : List Fact) (id : ℕ) (f : Fact) → find id fs ≡ Some f → f.id ≡ id
-find_id [] id f e = absurd (let z : ◌≡◌ {A = ℕ} 0 1 = cc in omega arith)
+find_id [] id f e = cc
 find_id (g ∷ fs) id f e = go (g.id == id) refl e (find_id fs id f) where
   go : (b : Bool) → (g.id == id) ≡ b → cond b (Some g) (find id fs) ≡ Some f
       → (find id fs ≡ Some f → f.id ≡ id) → f.id ≡ id
@@ -99,14 +99,14 @@ find_id (g ∷ fs) id f e = go (g.id == id) refl e (find_id fs id f) where
 
 -- and keeps to the bounds of all
 pub find_beneath_over : (fs : List Fact) (id : ℕ) (f : Fact) (low : ℕ) → Beneath low fs → find id fs ≡ Some f → low < id
-find_beneath_over [] id f low b q = absurd (let z : ◌≡◌ {A = ℕ} 0 1 = cc in omega arith)
+find_beneath_over [] id f low b q = cc
 find_beneath_over (g ∷ fs) id f low b q = go (g.id == id) refl q (find_beneath_over fs id f low b.1) where
   go : (t : Bool) → (g.id == id) ≡ t → cond t (Some g) (find id fs) ≡ Some f → (find id fs ≡ Some f → low < id) → low < id
   go true t q rest = let h = eqb-true g.id id t in let l = b.0 in omega arith
   go false t q rest = rest q
 
 pub find_above_under : (fs : List Fact) (id : ℕ) (f : Fact) (high : ℕ) → Above high fs → find id fs ≡ Some f → id < high
-find_above_under [] id f high a q = absurd (let z : ◌≡◌ {A = ℕ} 0 1 = cc in omega arith)
+find_above_under [] id f high a q = cc
 find_above_under (g ∷ fs) id f high a q = go (g.id == id) refl q (find_above_under fs id f high a.1) where
   go : (t : Bool) → (g.id == id) ≡ t → cond t (Some g) (find id fs) ≡ Some f → (find id fs ≡ Some f → id < high) → id < high
   go true t q rest = let h = eqb-true g.id id t in let l = a.0 in omega arith
@@ -144,7 +144,7 @@ without_append (f ∷ fs) gs id = go (f.id == id) (without_append fs gs id) wher
   go false e = ap (λ xs. f ∷ xs) e
 
 pub length_without : (fs : List Fact) (id : ℕ) (f : Fact) → Rising fs → find id fs ≡ Some f → length (without id fs) + 1 ≡ length fs
-length_without [] id f r e = absurd (let z : ◌≡◌ {A = ℕ} 0 1 = cc in omega arith)
+length_without [] id f r e = cc
 length_without (g ∷ fs) id f r e = go (g.id == id) refl e (length_without fs id f r.1) where
   go : (b : Bool) → (g.id == id) ≡ b → cond b (Some g) (find id fs) ≡ Some f
       → (find id fs ≡ Some f → length (without id fs) + 1 ≡ length fs)

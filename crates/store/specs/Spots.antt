@@ -4,14 +4,13 @@
 --     Spot id facts i   at place i stands the fact with that id: it is what find gives, and its
 --                       removal leaves the others, in rising id
 --     Absent id facts   no fact has that id
-use Rattle.std.specs.Prelude.{◌≡◌, ℕ, suc, ◌<◌, true, cond, List, [], ◌∷◌, length, Some, None, nat_lt, slice_index_or}
-use Rattle.std.specs.List.{remove}
+use Rattle.std.specs.Prelude.{◌≡◌, ℕ, ◌<◌, true, List, [], length, Some, None, nat_lt, slice_index_or}
+use Rattle.std.specs.List.{prefix_len, remove}
 use Rattle.facts.specs.declared.Fact.{Fact}
 use Rattle.store.specs.Store.{find, without, rises}
 
 abbrev pub place : ℕ → List Fact → ℕ
-place id [] = 0
-place id (f ∷ fs) = cond (nat_lt f.id id) (suc (place id fs)) 0
+place id facts = prefix_len (λ (f : Fact). nat_lt f.id id) facts
 
 abbrev pub blank : Fact
 blank = record { id = 0; kind = 0; values = [] }

@@ -11,6 +11,7 @@
 --     beneath, rises            the same two as tests
 --     Added fact facts rows ok after
 --                               what adding to a store of so many rows answers and leaves
+--     NextIsSmallest            what next_of gives is the smallest id of its kind at or above from
 use Rattle.std.specs.Prelude.{◌≡◌, ℕ, ◌<◌, ◌≤◌, Bool, true, cond, ◌&&◌, List, [], ◌∷◌, ◌++◌, length, Some, None, Option, ◌==◌, nat_le, nat_lt}
 use Rattle.facts.specs.declared.Fact.{Fact}
 
@@ -61,3 +62,9 @@ rises (f ∷ fs) = beneath f.id fs && rises fs
 pub record Added (fact : Fact) (facts : List Fact) (rows : ℕ) (ok : Bool) (after : List Fact) : Type 0 where
   pub value : Above fact.id facts → ok ≡ nat_lt (length facts) rows
   pub live : after ≡ cond ok (facts ++ fact ∷ []) facts
+
+pub record NextIsSmallest : Type 0 where
+  pub smallest : (facts : List Fact) (kind from id i : ℕ) (fact : Fact) → Rising facts → next_of kind from facts ≡ Some id
+      → find i facts ≡ Some fact → fact.kind ≡ kind → from ≤ i → id ≤ i
+  pub none : (facts : List Fact) (kind from i : ℕ) (fact : Fact) → next_of kind from facts ≡ None
+      → find i facts ≡ Some fact → fact.kind ≡ kind → from ≤ i → ⊥

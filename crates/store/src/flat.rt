@@ -1,4 +1,5 @@
-//! The flat store: its live facts stand side by side in rising id, and are searched by halves.
+//! The flat store: its live facts stand side by side in rising id. One is looked for where it stands if
+//! no id before it is missing, and else by halves.
 //!
 //! The memory is the caller's: given when the store is made, given back by `into_rows`. The store
 //! claims none of its own.
@@ -71,7 +72,7 @@ impl Store for Flat {
     }
 
     fn add(&mut self, fact: Fact) -> Result<(), NoRow> {
-        if !self.has_row() || !may_follow(self.facts.as_slice(), fact) {
+        if !self.has_row() || !may_follow(&self.facts, fact) {
             return Err(NoRow);
         }
         self.facts.push_reserved(fact);
@@ -79,22 +80,17 @@ impl Store for Flat {
     }
 
     fn take(&mut self, id: Id) -> Option<Fact> {
-        match spot_of(self.facts.as_slice(), id) {
-            Some(at) => Some(self.facts.remove(at)),
-            None => None,
-        }
+        let at = spot_of(&self.facts, id)?;
+        Some(self.facts.remove(at))
     }
 
     fn read(&self, id: Id) -> Option<Fact> {
-        let facts = self.facts.as_slice();
-        match spot_of(facts, id) {
-            Some(at) => Some(facts[at]),
-            None => None,
-        }
+        let at = spot_of(&self.facts, id)?;
+        Some(self.facts[at])
     }
 
     fn next(&self, kind: Kind, from: Id) -> Option<Id> {
-        next_in(self.facts.as_slice(), kind, from)
+        next_in(&self.facts, kind, from)
     }
 
     fn rows(&self) -> usize {

@@ -10,6 +10,7 @@ ghost use Rattle.facts.specs.declared.Fact.{Fact as LiveFact};
 ghost use Rattle.store.specs.Store.{find, without, next_of, Rising, Added, AtLeast};
 
 pub mod flat;
+pub mod laws;
 
 use facts::{Fact, Id, Kind};
 

@@ -1,5 +1,5 @@
 -- Every record on the roll was justified when it was made: what every call keeps.
-use Rattle.std.proofs.Common.{◌≡◌, ℕ, zero, suc, ◌≤◌, Bool, true, false, cond, ◌⊎◌, List, [], ◌∷◌, ◌++◌, length, ℤ, Some, None, Ok, Err, Option, Result, sym, refl, ap, ◌∙◌, subst, inl, inr, arith}
+use Rattle.std.proofs.Common.{◌≡◌, ℕ, zero, suc, ◌≤◌, Bool, true, false, cond, ◌⊎◌, List, [], ◌∷◌, ◌++◌, length, ℤ, Some, None, Ok, Err, Option, Result, sym, refl, ap, ◌∙◌, subst, inl, inr}
 use Rattle.facts.specs.declared.Fact.{Fact}
 use Rattle.rules.specs.Results.{kept_or}
 use Rattle.rules.specs.Rules.{Rule, small}
@@ -40,8 +40,8 @@ rest_same : {A : Type 0} (x y : A) (xs ys : List A) → x ∷ xs ≡ y ∷ ys �
 rest_same x y xs ys e = cc
 
 pub nothing_before : {A : Type 0} (before : List A) (y : A) (rest : List A) → [] ≡ before ++ y ∷ rest → ⊥
-nothing_before [] y rest e = let z : ◌≡◌ {A = ℕ} 0 1 = cc in omega arith
-nothing_before (b ∷ before) y rest e = let z : ◌≡◌ {A = ℕ} 0 1 = cc in omega arith
+nothing_before [] y rest e = cc
+nothing_before (b ∷ before) y rest e = cc
 
 cons_same : {A : Type 0} (x y : A) (xs ys : List A) → x ≡ y → xs ≡ ys → x ∷ xs ≡ y ∷ ys
 cons_same x y xs ys p q = cc
@@ -65,14 +65,14 @@ same_firing : (f g : Firing) → Fired f ≡ Fired g → f ≡ g
 same_firing f g e = cc
 
 handed_not_fired : (f : Fact) (g : Firing) → HandedIn f ≡ Fired g → ⊥
-handed_not_fired f g e = let z : ◌≡◌ {A = ℕ} 0 1 = cc in omega arith
+handed_not_fired f g e = cc
 
 -- What a body that was worked out writes.
 body_written : (n : ℕ) (fails : Bool) (x : Result (List Written) WorkingFault) (ws : List Written)
     → cond fails (Ok []) (of_rule n x) ≡ Ok ws → ws ≡ cond fails [] (kept_or x [])
 body_written n true x ws e = cc
 body_written n false (Ok vs) ws e = cc
-body_written n false (Err f) ws e = absurd (let z : ◌≡◌ {A = ℕ} 0 1 = cc in omega arith)
+body_written n false (Err f) ws e = cc
 
 -- a course leaves the state of its first step, or of the rest
 left_by_course : (P : State → Type 0) (r : Result Stepped Refusal) (u : State) (c : Course) → P u → P c.state → P (onward r u c).state

@@ -1,5 +1,5 @@
 -- The whole promise holds after any list of calls, and each call carries it on.
-use Rattle.std.proofs.Common.{◌≡◌, ℕ, suc, Bool, true, false, cond, List, [], ◌∷◌, ◌++◌, length, Some, None, Ok, Err, Option, Result, sym, refl, ap, ◌∙◌, subst, arith}
+use Rattle.std.proofs.Common.{◌≡◌, suc, Bool, true, false, cond, List, [], ◌∷◌, ◌++◌, length, Some, None, Ok, Err, Option, Result, sym, refl, ap, ◌∙◌, subst}
 use Rattle.std.proofs.lemmas.Bool.{false≢true}
 use Rattle.meaning.specs.declared.answers.Sight.{Sight}
 use Rattle.meaning.specs.declared.answers.Sight.TheVariants as sight
@@ -29,9 +29,9 @@ module _ {R : Type 0} (s : Setup R) where
 
   pub final_unfailed_none : (t : State) (b : Bool) (o : Option (Due R)) → cond b (Err refusal.Failed) (Ok (sighted s t o)) ≡ Ok sight.Final
       → (b ≡ false) × (o ≡ None)
-  final_unfailed_none t true o e = absurd (let z : ◌≡◌ {A = ℕ} 0 1 = cc in omega arith)
+  final_unfailed_none t true o e = cc
   final_unfailed_none t false None e = (refl, refl)
-  final_unfailed_none t false (Some d) e = absurd (let z : ◌≡◌ {A = ℕ} 0 1 = cc in omega arith)
+  final_unfailed_none t false (Some d) e = cc
 
   none_final : (t : State) (b : Bool) (o : Option (Due R)) → DueIs s t o → b ≡ false → ((d : Due R) → Waits s t d → ⊥)
       → cond b (Err refusal.Failed) (Ok (sighted s t o)) ≡ Ok sight.Final

@@ -1,5 +1,5 @@
 -- A firing that is refused is refused by the number of the first cause that holds: body, then rows, then roll.
-use Rattle.std.proofs.Common.{◌≡◌, ℕ, ◌≤◌, Bool, true, false, ltb, leb, List, length, Ok, Err, Result, sym, refl, ap, ◌∙◌, subst, arith}
+use Rattle.std.proofs.Common.{◌≡◌, ℕ, ◌≤◌, Bool, true, false, ltb, leb, List, length, Ok, Err, Result, sym, refl, ap, ◌∙◌, subst}
 use Rattle.std.proofs.lemmas.Bool.{leb-true, leb-false, ltb-false}
 use Rattle.rules.specs.Results.{and_then, unless}
 use Rattle.meaning.specs.declared.refusal.Refusal.{Refusal}
@@ -17,7 +17,7 @@ same_refusal : (q r : Refusal) → ◌≡◌ {A = Result State Refusal} (Err q) 
 same_refusal q r e = cc
 
 made_not_refused : (u : State) (r : Refusal) → Ok u ≡ Err r → ⊥
-made_not_refused u r e = let z : ◌≡◌ {A = ℕ} 0 1 = cc in omega arith
+made_not_refused u r e = cc
 
 module _ {R : Type 0} (s : Setup R) (t : State) (n : ℕ) (is : List ℕ) where
   abbrev Down : Refusal → Type 0

@@ -1,5 +1,5 @@
 -- What look, step and run with a count do, in words, from the functions that say it.
-use Rattle.std.proofs.Common.{◌≡◌, ℕ, zero, suc, Bool, true, false, cond, [], ◌∷◌, ◌++◌, map, Some, None, Ok, Err, Option, Result, sym, refl, ap, ◌∙◌, append_assoc, append-nil, arith}
+use Rattle.std.proofs.Common.{◌≡◌, ℕ, zero, suc, Bool, true, false, cond, [], ◌∷◌, ◌++◌, map, Some, None, Ok, Err, Option, Result, sym, refl, ap, ◌∙◌, append_assoc, append-nil}
 use Rattle.std.specs.Result.{result_err}
 use Rattle.rules.specs.Results.{and_then, kept_or}
 use Rattle.meaning.specs.declared.answers.Ending.{Ending}
@@ -74,7 +74,7 @@ module _ {R : Type 0} (s : Setup R) (t : State) (n : ℕ) where
 -- In words
 
 refused_with : {A : Type 0} (x : Result A Refusal) (e : Refusal) → result_err x ≡ Some e → x ≡ Err e
-refused_with (Ok a) e q = absurd (let z : ◌≡◌ {A = ℕ} 0 1 = cc in omega arith)
+refused_with (Ok a) e q = cc
 refused_with (Err r) e q = let same : r ≡ e = cc in ap Err same
 
 module _ {R : Type 0} (s : Setup R) (fit : Fit s) (t : State) (ok : Orderly t) where

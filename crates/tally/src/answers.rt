@@ -3,7 +3,7 @@ use meaning::answers::{Ran, Sight, Stepped};
 use meaning::refusal::Refusal;
 
 /// What a call answers, under the call's own name; of a choice also what the chosen run held.
-#[derive(Clone, Copy)]
+#[derive(Clone, Copy, PartialEq, Eq, Debug)]
 pub enum Answer {
     HandIn(Result<Id, Refusal>),
     Read(Option<Fact>),

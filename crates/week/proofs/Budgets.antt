@@ -18,9 +18,8 @@ use Rattle.rules.specs.Results.{and_then}
 use Rattle.rules.specs.Rules.{Rule, blank_rule, guard_bound, fact_bound}
 use Rattle.book.specs.declared.draft.State.{State}
 use Rattle.book.specs.declared.draft.State.TheVariants as state
-use Rattle.book.specs.declared.part.Part.TheVariants as part
-use Rattle.book.specs.Drafts.{Draft, Tables, follows, open_rule, opened, with_part, declaring, declared, body_clear, body_fact, entered, taking, fresh}
-use Rattle.book.proofs.Cases.{err_is_ok, same_ok, ok_then, ok_unless, ok_some}
+use Rattle.book.specs.Drafts.{Draft, Tables, follows, open_rule, opened, with_head, with_guard, with_fact, with_fail, with_end, declaring, declared, body_clear, body_fact, entered, taking, fresh}
+use Rattle.book.proofs.Cases.{same_ok, ok_then, ok_unless, ok_some}
 use Rattle.book.proofs.Records.{kind_of, fields_is}
 use Rattle.book.proofs.States.{fact_kind_follows, begin_follows, head_follows, guard_follows, body_follows, fail_follows, end_follows, goal_follows}
 
@@ -52,7 +51,7 @@ fresh_budget = refl
 declared_uses : (ks : List (Option ℕ)) (k a : ℕ) → k < length ks → is_some (get_or ks k None) ≡ false → undeclared (set ks k (Some a)) + 1 ≡ undeclared ks
 declared_uses [] k a l e = absurd (omega arith)
 declared_uses (None ∷ ks) zero a l e = omega arith
-declared_uses (Some b ∷ ks) zero a l e = absurd (let z : ◌≡◌ {A = ℕ} 0 1 = cc in omega arith)
+declared_uses (Some b ∷ ks) zero a l e = absurd cc
 declared_uses (None ∷ ks) (suc k) a l e = let h = declared_uses ks k a (omega arith) e in omega arith
 declared_uses (Some b ∷ ks) (suc k) a l e = declared_uses ks k a (omega arith) e
 
@@ -61,9 +60,9 @@ declaring_uses ks js k a e = go (ltb k (length ks)) refl (is_some (get_or ks k N
   where
     go : (b : Bool) → ltb k (length ks) ≡ b → (c : Bool) → is_some (get_or ks k None) ≡ c
         → cond b (cond c (Err fault_of.DeclaredTwice) (Ok (set ks k (Some a)))) (Err fault_of.OutOfRange) ≡ Ok js → undeclared js + 1 ≡ undeclared ks
-    go true p true q e = err_is_ok e
+    go true p true q e = absurd cc
     go true p false q e = ap (λ (xs : List (Option ℕ)). undeclared xs + 1) (sym (same_ok e)) ∙ declared_uses ks k a (ltb-true k (length ks) p) q
-    go false p c q e = err_is_ok e
+    go false p c q e = absurd cc
 
 -- The open rule changed
 
@@ -85,18 +84,18 @@ change_uses f a b s t n e u =
     subst (λ (x : Tables). n + tables_budget t x ≤ tables_budget s a) (same_ok m.1.1) (omega arith)
 
 module _ (r q : Rule) where
-  head_added : (h : Head) → with_part (part.Head h) r ≡ Ok q → (length r.heads < 4) × (length q.heads ≡ length r.heads + 1)
+  head_added : (h : Head) → with_head h r ≡ Ok q → (length r.heads < 4) × (length q.heads ≡ length r.heads + 1)
   head_added h e =
       let p = ok_unless (ltb (length r.heads) 4) fault_of.TooMany _ q e in
       (ltb-true (length r.heads) 4 p.0, ap (λ (x : Rule). length x.heads) (sym (same_ok p.1)) ∙ length_push r.heads h)
 
-  guard_added : (g : Guard) → with_part (part.Guard g) r ≡ Ok q → (length r.guards < 8) × (length q.guards ≡ length r.guards + 1)
+  guard_added : (g : Guard) → with_guard g r ≡ Ok q → (length r.guards < 8) × (length q.guards ≡ length r.guards + 1)
   guard_added g e =
       let b = ok_unless (guard_bound r.heads g) fault_of.Unbound _ q e in
       let p = ok_unless (ltb (length r.guards) 8) fault_of.TooMany _ q b.1 in
       (ltb-true (length r.guards) 8 p.0, ap (λ (x : Rule). length x.guards) (sym (same_ok p.1)) ∙ length_push r.guards g)
 
-  fact_added : (f : BodyFact) → with_part (part.Fact f) r ≡ Ok q → (length r.facts < 4) × (length q.facts ≡ length r.facts + 1)
+  fact_added : (f : BodyFact) → with_fact f r ≡ Ok q → (length r.facts < 4) × (length q.facts ≡ length r.facts + 1)
   fact_added f e =
       let b = ok_unless (fact_bound r.heads f) fault_of.Unbound _ q e in
       let p = ok_unless (ltb (length r.facts) 4) fault_of.TooMany _ q b.1 in
@@ -120,32 +119,32 @@ module _ (a b : Tables) (s t : State) where
       begin_follows (Uses 1) t s f (subst (λ (x : Tables). 1 + tables_budget state.Begun x ≤ tables_budget state.Between a) (same_ok p.1) (omega arith))
   entered_uses (record_of.Head h) f e =
       let p = ok_then (declared a.kinds h.kind) _ b e in
-      let q = ok_unless (unused_clear operand_blank p.0 h.operands) fault_of.UnusedFilled (opened a (with_part (part.Head h))) b p.1.1 in
+      let q = ok_unless (unused_clear operand_blank p.0 h.operands) fault_of.UnusedFilled (opened a (with_head h)) b p.1.1 in
       head_follows (Uses 18) t s f
-      (change_uses (with_part (part.Head h)) a b state.Begun state.Heads 18 q.1 (λ r q e. let x = head_added r q h e in omega arith))
-      (change_uses (with_part (part.Head h)) a b state.Heads state.Heads 18 q.1 (λ r q e. let x = head_added r q h e in omega arith))
+      (change_uses (with_head h) a b state.Begun state.Heads 18 q.1 (λ r q e. let x = head_added r q h e in omega arith))
+      (change_uses (with_head h) a b state.Heads state.Heads 18 q.1 (λ r q e. let x = head_added r q h e in omega arith))
   entered_uses (record_of.Guard g) f e =
       guard_follows (Uses 12) t s f
-      (change_uses (with_part (part.Guard g)) a b state.Heads state.Guards 12 e (λ r q e. let x = guard_added r q g e in omega arith))
-      (change_uses (with_part (part.Guard g)) a b state.Guards state.Guards 12 e (λ r q e. let x = guard_added r q g e in omega arith))
+      (change_uses (with_guard g) a b state.Heads state.Guards 12 e (λ r q e. let x = guard_added r q g e in omega arith))
+      (change_uses (with_guard g) a b state.Guards state.Guards 12 e (λ r q e. let x = guard_added r q g e in omega arith))
   entered_uses (record_of.BodyFact w) f e =
       let p = ok_then (declared a.kinds w.kind) _ b e in
       let fact : BodyFact = body_fact p.0 w in
-      let q = ok_unless (body_clear p.0 w.workings) fault_of.UnusedFilled (opened a (with_part (part.Fact fact))) b p.1.1 in
+      let q = ok_unless (body_clear p.0 w.workings) fault_of.UnusedFilled (opened a (with_fact fact)) b p.1.1 in
       body_follows (Uses 35) t s f
-      (change_uses (with_part (part.Fact fact)) a b state.Heads state.Facts 35 q.1 (λ r q e. let x = fact_added r q fact e in omega arith))
-      (change_uses (with_part (part.Fact fact)) a b state.Guards state.Facts 35 q.1 (λ r q e. let x = fact_added r q fact e in omega arith))
-      (change_uses (with_part (part.Fact fact)) a b state.Facts state.Facts 35 q.1 (λ r q e. let x = fact_added r q fact e in omega arith))
+      (change_uses (with_fact fact) a b state.Heads state.Facts 35 q.1 (λ r q e. let x = fact_added r q fact e in omega arith))
+      (change_uses (with_fact fact) a b state.Guards state.Facts 35 q.1 (λ r q e. let x = fact_added r q fact e in omega arith))
+      (change_uses (with_fact fact) a b state.Facts state.Facts 35 q.1 (λ r q e. let x = fact_added r q fact e in omega arith))
   entered_uses record_of.Fail f e =
       fail_follows (Uses 1) t s f
-      (change_uses (with_part part.Fail) a b state.Heads state.Failing 1 e (λ r q e. omega arith))
-      (change_uses (with_part part.Fail) a b state.Guards state.Failing 1 e (λ r q e. omega arith))
+      (change_uses with_fail a b state.Heads state.Failing 1 e (λ r q e. omega arith))
+      (change_uses with_fail a b state.Guards state.Failing 1 e (λ r q e. omega arith))
   entered_uses (record_of.RuleEnds n o) f e =
       end_follows (Uses 7) t s f
-      (change_uses (with_part (part.End n o)) a b state.Heads state.Between 7 e (λ r q e. omega arith))
-      (change_uses (with_part (part.End n o)) a b state.Guards state.Between 7 e (λ r q e. omega arith))
-      (change_uses (with_part (part.End n o)) a b state.Facts state.Between 7 e (λ r q e. omega arith))
-      (change_uses (with_part (part.End n o)) a b state.Failing state.Between 7 e (λ r q e. omega arith))
+      (change_uses (with_end n o) a b state.Heads state.Between 7 e (λ r q e. omega arith))
+      (change_uses (with_end n o) a b state.Guards state.Between 7 e (λ r q e. omega arith))
+      (change_uses (with_end n o) a b state.Facts state.Between 7 e (λ r q e. omega arith))
+      (change_uses (with_end n o) a b state.Failing state.Between 7 e (λ r q e. omega arith))
   entered_uses (record_of.GoalFact g) f e = goal_follows (Uses 14) t s f
 
 pub taking_uses : (d : Draft) (bs : List ℕ) (k : RecordKind) (a : Draft) → taking d bs ≡ Ok (k, a) → size k + budget a ≤ budget d

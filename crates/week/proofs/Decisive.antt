@@ -8,7 +8,7 @@ use Rattle.records.specs.declared.fault.Fault.{Fault}
 use Rattle.records.specs.declared.fault.Fault.TheVariants as fault_of
 use Rattle.records.specs.declared.kinds.RecordKind.{RecordKind}
 use Rattle.rules.specs.Results.{and_then, unless}
-use Rattle.book.proofs.Cases.{err_is_ok, same_ok}
+use Rattle.book.proofs.Cases.{same_ok}
 use Rattle.book.specs.Books.{closing}
 use Rattle.book.specs.Drafts.{Draft, fresh, is_open, taking}
 use Rattle.week.specs.declared.week.At.{At}
@@ -51,7 +51,7 @@ rules_ended (suc n) p d bs q a l e = go (rules_end d bs) refl (taking d bs) refl
         → ((k : RecordKind) (c : Draft) → length (drop (size k) bs) ≤ n → after_record n p bs k c ≡ Ok (q, a) → Ended (p + size k) c (drop (size k) bs) q a)
         → cond b (Ok (p, d)) (on_record p x (after_record n p bs)) ≡ Ok (q, a) → Ended p d bs q a
     go true r x t on e = ended_here p d bs q a (sym r) e
-    go false r (Err f) t on e = err_is_ok e
+    go false r (Err f) t on e = absurd cc
     go false r (Ok y) t on e =
         let z = size_positive y.0 in
         let u = taking_uses d bs y.0 y.1 t in

@@ -9,7 +9,7 @@ use Rattle.records.specs.declared.fault.Fault.TheVariants as fault_of
 use Rattle.records.specs.declared.kinds.RecordKind.{RecordKind}
 use Rattle.records.specs.declared.kinds.RecordKind.TheVariants as kind
 use Rattle.records.specs.declared.parts.Goal.{Goal}
-use Rattle.book.proofs.Cases.{ok_then, err_is_ok, same_ok}
+use Rattle.book.proofs.Cases.{ok_then, same_ok}
 use Rattle.book.specs.Drafts.{Draft, taking, taken_kind, taken_draft, follows, entered}
 use Rattle.week.specs.Weeks.{Goals, rules_end, rules_from, on_record, on_goal, goal_at_front, goals_from, is_goal, goal_of}
 use Rattle.rules.specs.Results.{and_then, unless}
@@ -30,12 +30,12 @@ pub begun_within : (bs : List ℕ) (k : RecordKind) → begun bs ≡ Ok k → si
 begun_within bs k e = go (eqb (length bs) 0) (record_kind (byte bs 0)) e
   where
     long : (j : RecordKind) (b : Bool) → ltb (length bs) (size j) ≡ b → cond b (Err fault_of.Cut) (Ok j) ≡ Ok k → size k ≤ length bs
-    long j true h e = err_is_ok e
+    long j true h e = absurd cc
     long j false h e = subst (λ (i : RecordKind). size i ≤ length bs) (same_ok e) (ltb-false (length bs) (size j) h)
 
     go : (b : Bool) (o : Option RecordKind) → cond b (Err fault_of.Cut) (whole o (length bs)) ≡ Ok k → size k ≤ length bs
-    go true o e = err_is_ok e
-    go false None e = err_is_ok e
+    go true o e = absurd cc
+    go false None e = absurd cc
     go false (Some j) e = long j (ltb (length bs) (size j)) refl e
 
 pub taken_begun : (d : Draft) (bs : List ℕ) (k : RecordKind) (a : Draft) → taking d bs ≡ Ok (k, a) → begun bs ≡ Ok k
@@ -49,10 +49,10 @@ taken_begun d bs k a e =
 -- what a draft answers and holds then, put together
 pub taken_both : (x : Result (RecordKind × Draft) Fault) (k : RecordKind) (d e : Draft) → Ok k ≡ taken_kind x → e ≡ taken_draft x d → x ≡ Ok (k, e)
 taken_both (Ok y) k d e p q = let h : y.0 ≡ k = cc in λ i. Ok (h i, sym q i)
-taken_both (Err f) k d e p q = err_is_ok (sym p)
+taken_both (Err f) k d e p q = absurd cc
 
 pub taken_not : (x : Result (RecordKind × Draft) Fault) (f : Fault) → Err f ≡ taken_kind x → x ≡ Err f
-taken_not (Ok y) f p = err_is_ok p
+taken_not (Ok y) f p = absurd cc
 taken_not (Err g) f p = cc
 
 -- The rules end, or go on with a record
@@ -68,16 +68,13 @@ pub nothing_ends : (d : Draft) (bs : List ℕ) → length bs ≤ 0 → true ≡ 
 nothing_ends d bs l = sym (ap (rules_end d) (nil_from_length bs (omega arith)))
 
 pub true_is_false : {P : Type 0} → true ≡ false → P
-true_is_false e = absurd (let z : ◌≡◌ {A = ℕ} 0 1 = cc in omega arith)
+true_is_false e = absurd cc
 
 -- The rules: the fuel left is no less than the bytes left
 
 module _ (first : Draft) (file : List ℕ) where
   abbrev pub Ahead : ℕ → Draft → Type 0
   Ahead p d = (p ≤ length file) × ((n : ℕ) × ((length file - p ≤ n) × (rules_from (length file) 0 first file ≡ rules_from n p d (drop p file))))
-
-  pub ahead_start : Ahead 0 first
-  ahead_start = (omega arith, (length file, (omega arith, refl)))
 
   module _ (p : ℕ) (d : Draft) (h : Ahead p d) where
     pub ahead_end : true ≡ rules_end d (drop p file) → Ok (p, d) ≡ rules_from (length file) 0 first file
@@ -134,13 +131,13 @@ goal_within bs g e =
     go p.0 p.1.0 p.1.1
   where
     go : (k : RecordKind) → begun bs ≡ Ok k → and_then (unless (is_goal k) fault_of.MayNotFollow) (λ _. and_then (fields k bs) goal_of) ≡ Ok g → 14 ≤ length bs
-    go kind.FactKind b e = err_is_ok e
-    go kind.RuleBegins b e = err_is_ok e
-    go kind.Head b e = err_is_ok e
-    go kind.Guard b e = err_is_ok e
-    go kind.BodyFact b e = err_is_ok e
-    go kind.Fail b e = err_is_ok e
-    go kind.RuleEnds b e = err_is_ok e
+    go kind.FactKind b e = absurd cc
+    go kind.RuleBegins b e = absurd cc
+    go kind.Head b e = absurd cc
+    go kind.Guard b e = absurd cc
+    go kind.BodyFact b e = absurd cc
+    go kind.Fail b e = absurd cc
+    go kind.RuleEnds b e = absurd cc
     go kind.GoalFact b e = begun_within bs kind.GoalFact b
 
 goals_end : (n p : ℕ) (bs : List ℕ) → length bs ≡ 0 → goals_from n p bs ≡ record { goals = []; fault = None }
@@ -160,9 +157,6 @@ goals_nil p bs = refl
 module _ (start : ℕ) (file : List ℕ) where
   abbrev pub GoalsAhead : List Goal → ℕ → Type 0
   GoalsAhead gs p = (p ≤ length file) × (after_goals gs (goals_from (1025 - length gs) p (drop p file)) ≡ goals_from 1025 start (drop start file))
-
-  pub goals_start : (gs : List Goal) → gs ≡ [] → start ≤ length file → GoalsAhead gs start
-  goals_start gs e h = (h, ap (λ (xs : List Goal). after_goals xs (goals_from (1025 - length xs) start (drop start file))) e)
 
   module _ (gs : List Goal) (p : ℕ) (h : GoalsAhead gs p) where
     goals_none : goals_from (1025 - length gs) p (drop p file) ≡ record { goals = []; fault = None } → record { goals = gs; fault = None } ≡ goals_from 1025 start (drop start file)

@@ -18,10 +18,8 @@
 --     closed_at bs x        the week of the file bs whose rules ended at a place with a draft, x
 --     reading bs            the week that the file bs holds, or the first fault of its rules
 --     first_bytes bs        the first 34,691 of the bytes bs
---     untouched d           d has taken no record: no rule, none open, no kind declared
 --     week_of w             the week that the data w holds; answer_of, the same of an answer
-use Rattle.std.specs.Prelude.{ℕ, zero, suc, ◌+◌, Bool, true, false, cond, not, ◌&&◌, ◌||◌, List, [], ◌∷◌, length, take, drop, is_some, Some, None, Ok, Err, vec_items, Option, Result, ◌==◌}
-use Rattle.facts.specs.Positions.{all}
+use Rattle.std.specs.Prelude.{ℕ, zero, suc, ◌+◌, Bool, true, false, cond, not, ◌&&◌, ◌||◌, List, [], ◌∷◌, length, take, drop, Some, None, Ok, Err, vec_items, Option, Result, ◌==◌}
 use Rattle.records.specs.Bytes.{begun, fields, size}
 use Rattle.records.specs.declared.fault.Fault.{Fault}
 use Rattle.records.specs.declared.fault.Fault.TheVariants as fault_of
@@ -130,9 +128,6 @@ unfoldable pub first_bytes : List ℕ → List ℕ
 first_bytes bs = take 34691 bs
 
 -- The data
-
-abbrev pub untouched : Draft → Bool
-untouched d = not (is_open d.state) && (all (λ a. not (is_some a)) d.tables.kinds && length d.tables.rules == 0)
 
 abbrev pub week_of : WeekData → Week
 week_of w = record { book = book_of w.book; start = w.start; goals = vec_items w.goals; fault = w.fault }

@@ -1,8 +1,7 @@
 ghost use Rattle.std.specs.Prelude.{◌≡◌, ◌≤◌, length, drop, vec_len, vec_capacity};
-ghost use Rattle.week.specs.Weeks.{goal_at_front, goal_of, goals_from};
+ghost use Rattle.week.specs.Weeks.{goal_at_front, goals_from};
 
 use crate::reader::MOST_GOALS;
-use crate::rule_records::is_goal;
 use crate::week::At;
 use records::fault::Fault;
 use records::kinds::{Record, RecordKind};
@@ -17,6 +16,7 @@ pub(crate) fn read_goals(goals: &mut Vec<Goal>, file: &[u8], start: usize) -> Op
     ensures value { record { goals = goals.exit.now.items; fault = result } ≡ goals_from 1025 start (drop start file.now) }
 {
     let mut place = start;
+    // Kept as a loop that a `break` ends: a required form, which gives the first fault with its place.
     loop {
         if goals.len() >= MOST_GOALS || place >= file.len() {
             break None;
@@ -36,16 +36,10 @@ fn goal_at_front(bytes: &[u8]) -> Result<Goal, Fault>
     ensures value { result ≡ goal_at_front bytes.now }
 {
     let kind = begun(bytes)?;
-    if !is_goal(kind) {
+    if kind != RecordKind::GoalFact {
         return Err(Fault::MayNotFollow);
     }
-    goal_of(fields(kind, bytes)?)
-}
-
-fn goal_of(record: Record) -> Result<Goal, Fault>
-    ensures value { result ≡ goal_of «record» }
-{
-    match record {
+    match fields(kind, bytes)? {
         Record::GoalFact(goal) => Ok(goal),
         _ => Err(Fault::MayNotFollow),
     }

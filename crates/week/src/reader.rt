@@ -1,6 +1,6 @@
-ghost use Rattle.std.specs.Prelude.{◌≡◌, ◌≤◌, true, vec_len, vec_capacity};
+ghost use Rattle.std.specs.Prelude.{◌≡◌, ◌≤◌, vec_len, vec_capacity};
+ghost use Rattle.book.specs.Drafts.{fresh};
 ghost use Rattle.book.specs.Held.{draft_of};
-ghost use Rattle.week.specs.Weeks.{untouched};
 
 use book::draft::Draft;
 use records::parts::Goal;
@@ -16,7 +16,7 @@ pub const MOST_GOALS: usize = 1025;
 pub struct Reader {
     draft: Draft,
     goals: Vec<Goal>,
-    ghost fresh: { untouched (draft_of draft) ≡ true },
+    ghost fresh: { draft_of draft ≡ fresh },
     ghost none: { vec_len goals ≡ 0 },
     ghost room: { 1025 ≤ vec_capacity goals },
 }

@@ -1,7 +1,6 @@
 ghost use Rattle.std.specs.Prelude.{◌≡◌, ◌≤◌, length, IfOk};
 ghost use Rattle.book.specs.Held.{draft_of};
-ghost use Rattle.week.specs.Weeks.{is_goal, begins_goal, rules_end, rules_from, ended_with, open_fault};
-ghost use Rattle.records.specs.Bytes.{begun};
+ghost use Rattle.week.specs.Weeks.{rules_end, rules_from, ended_with, open_fault};
 
 use crate::week::At;
 use book::draft::Draft;
@@ -16,6 +15,7 @@ pub(crate) fn read_rules(draft: &mut Draft, file: &[u8]) -> Result<usize, At>
     ensures within { IfOk result (λ p. p ≤ length file.now) }
 {
     let mut place = 0;
+    // Kept as a loop that a `break` ends: a required form, which gives the first fault with its place.
     loop {
         if rules_end(draft, &file[place..]) {
             break Ok(place);
@@ -31,26 +31,7 @@ pub(crate) fn read_rules(draft: &mut Draft, file: &[u8]) -> Result<usize, At>
 fn rules_end(draft: &Draft, rest: &[u8]) -> bool
     ensures value { result ≡ rules_end (draft_of draft.now) rest.now }
 {
-    rest.len() == 0 || begins_goal(rest) && !draft.is_open()
-}
-
-fn begins_goal(bytes: &[u8]) -> bool
-    ensures value { result ≡ begins_goal (begun bytes.now) }
-{
-    match begun(bytes) {
-        Ok(kind) => is_goal(kind),
-        Err(_) => false,
-    }
-}
-
-/// Whether the record is a goal fact.
-pub(crate) fn is_goal(kind: RecordKind) -> bool
-    ensures value { result ≡ is_goal kind }
-{
-    match kind {
-        RecordKind::GoalFact => true,
-        _ => false,
-    }
+    rest.is_empty() || matches!(begun(rest), Ok(RecordKind::GoalFact)) && !draft.is_open()
 }
 
 /// The fault at the end of the file where a rule is open.

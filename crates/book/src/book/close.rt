@@ -13,8 +13,7 @@ impl Draft {
         ensures value { book_of result ≡ closing (draft_of self) }
     {
         let open = self.is_open();
-        let Draft { tables, state: _ } = self;
-        let Tables { kinds, rules } = tables;
+        let Tables { kinds, rules } = self.tables;
         Book {
             kinds,
             rules: finished(open, rules),
@@ -23,11 +22,10 @@ impl Draft {
 }
 
 // The rules without the last one where it is open.
-fn finished(open: bool, rules: Vec<Rule>) -> Vec<Rule>
+fn finished(open: bool, mut rules: Vec<Rule>) -> Vec<Rule>
     ensures items { result.items ≡ cond «open» (take (length rules.items - 1) rules.items) rules.items }
     ensures few { vec_len result ≤ vec_len rules }
 {
-    let mut rules = rules;
     if open {
         let _ = rules.pop();
     }

@@ -41,6 +41,7 @@ impl Draft {
     }
 
     // The state after a record of this kind, if it may follow now.
+    // Kept as one match of the state and the kind that arrives, a required form: a table of what may follow.
     fn following(&self, kind: RecordKind) -> Result<State, Fault>
         ensures value { result ≡ ok_or (follows self.now.state kind) fault.MayNotFollow }
     {
@@ -61,9 +62,6 @@ impl Draft {
     pub fn is_open(&self) -> bool
         ensures value { result ≡ is_open (draft_of self.now).state }
     {
-        match self.state {
-            State::Between => false,
-            State::Begun | State::Heads | State::Guards | State::Facts | State::Failing => true,
-        }
+        self.state != State::Between
     }
 }

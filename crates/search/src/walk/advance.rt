@@ -1,21 +1,20 @@
-ghost use Rattle.std.specs.Prelude.{◌≡◌, ◌+◌, ◌<◌, ◌≤◌, min, [], ◌∷◌, length, take, replicate, None};
+ghost use Rattle.std.specs.Prelude.{◌≡◌, ◌+◌, ◌<◌, ◌≤◌, [], ◌∷◌, ◌++◌, length, take};
 ghost use Rattle.rules.specs.Rules.{rule_of};
+ghost use Rattle.matching.specs.Grounds.{asking_of, seeing_of};
 ghost use Rattle.matching.specs.Parts.{Ready, Later, Partnered};
 ghost use Rattle.few.specs.Few.{listed};
-ghost use Rattle.search.specs.Offers.{asking, seeing};
-ghost use Rattle.search.specs.Walks.{first_level, level_after, levels_of, weight, Advanced};
+ghost use Rattle.search.specs.Offers.{offered};
+ghost use Rattle.search.specs.Walks.{first_level, level_after, rest, weight, Blank, Advanced};
 
-use crate::walk::{Level, Walk};
+use crate::walk::{Level, RuleSearch, Walk};
 use facts::Id;
 use host::host::Host;
-use matching::consider::consider;
-use matching::env::{Env, UNBOUND};
+use matching::env::UNBOUND;
 use matching::partner::{Partner, next_partner};
 use meaning::due::Due;
-use meaning::roll::Entry;
+use meaning::roll::Firing;
 use order::order::Order;
 use records::parts::Head;
-use rules::Rule;
 use store::Store;
 
 impl Level {
@@ -34,9 +33,7 @@ impl Level {
     pub fn looking_from(self, from: Id) -> Level
         ensures value { result ≡ record { ids = self.ids; env = self.env; from = from } }
     {
-        let ids = self.ids;
-        let env = self.env;
-        Level { ids, env, from }
+        Level { from, ..self }
     }
 
     /// The next head, with a partner chosen for this one, the head at place `at`.
@@ -49,64 +46,74 @@ impl Level {
         let env = partner.env;
         Level { ids, env, from: 0 }
     }
-}
 
-impl Walk {
-    /// One step: the deepest level offers its next partner, or is done with.
-    pub fn advance<S: Store, H: Host, O: Order>(
-        &mut self,
-        store: &S,
-        host: &H,
-        order: &O,
-        roll: &[Entry],
-        number: u8,
-        rule: &Rule,
-        best: Option<Due<O::Rank>>,
-    ) -> Option<Due<O::Rank>>
-        requires reached { 0 < self.old.count }
-        requires within { self.old.count ≤ length (listed rule.now.heads) }
-        ensures within { self.new.count ≤ length (listed rule.now.heads) }
-        ensures lighter { weight 3 (levels_of self.new) < weight 3 (levels_of self.old) }
-        ensures advanced { Ready S.Store.sound S.Store.live store.now → Advanced (asking (H.Host.says host.now) (O.Order.rank order.now) (O.Order.better order.now) []) (seeing (S.Store.live store.now) roll.now) number (rule_of rule.now) (levels_of self.old) (levels_of self.new) best result }
+    // The next partner of this head, the head at place `at`.
+    fn partner<S: Store>(&self, store: &S, head: Head, at: usize) -> Option<Partner>
+        requires { at < 4 }
+        ensures later { Later self.now.from result }
+        ensures found { Ready S.Store store.now → Partnered head (take at self.now.ids) self.now.env (S.Store.live store.now) self.now.from result }
     {
-        let at = self.count - 1;
-        let level = self.levels[at];
-        let heads = rule.heads.as_slice();
-        let ids = level.ids;
-        let env = level.env;
-        match partner_at(store, heads[at], ids, at, env, level.from) {
-            None => {
-                self.count = at;
-                best
-            }
-            Some(partner) => {
-                self.levels[at] = level.looking_from(partner.after);
-                let chosen = level.with_partner(at, partner);
-                if at + 1 == heads.len() {
-                    return consider(
-                        host, order, roll, number, rule, chosen.ids, chosen.env, best,
-                    );
-                }
-                self.levels[at + 1] = chosen;
-                self.count = at + 2;
-                best
-            }
-        }
+        next_partner(store, head, &self.ids[..at], self.env, self.from)
     }
 }
 
-// The next partner of the head at place `at`, with the ids of the heads before it.
-fn partner_at<S: Store>(
-    store: &S,
-    head: Head,
-    ids: [Id; 4],
-    at: usize,
-    env: Env,
-    from: Id,
-) -> Option<Partner>
-    requires { at < 4 }
-    ensures later { Later from result }
-    ensures found { Ready S.Store.sound S.Store.live store.now → Partnered head (take at ids) env (S.Store.live store.now) from result }
+/// One level more, the deepest.
+pub fn reach(walk: &mut Walk, level: Level)
+    requires room { length (listed walk.old) < 4 }
+    ensures value { listed walk.new ≡ listed walk.old ++ level ∷ [] }
 {
-    next_partner(store, head, &ids[0..at], env, from)
+    let _reached = walk.push(level);
+}
+
+impl<'a, S: Store, H: Host, O: Order> RuleSearch<'a, S, H, O> {
+    /// One step: the deepest level, taken off those reached, offers its next partner, or is done with.
+    pub fn advance(
+        &self,
+        walk: &mut Walk,
+        level: Level,
+        best: Option<Due<O::Rank>>,
+    ) -> Option<Due<O::Rank>>
+        requires reached { length (listed walk.old) < length (listed self.now.rule.now.heads) }
+        ensures within { length (listed walk.new) ≤ length (listed self.now.rule.now.heads) }
+        ensures lighter { weight 3 (listed walk.new) < weight 3 (listed walk.old ++ level ∷ []) }
+        ensures advanced { Ready S.Store self.now.grounds.now.store.now → Advanced (asking_of H.Host O.Order self.now.grounds.now []) (seeing_of S.Store self.now.grounds.now) self.now.number (rule_of self.now.rule.now) (listed walk.old ++ level ∷ []) (listed walk.new) best result }
+    {
+        let at = walk.len();
+        let heads = self.rule.heads.as_slice();
+        if at + 1 == heads.len() {
+            return self.completed(level, at, best);
+        }
+        if let Some(partner) = level.partner(self.grounds.store, heads[at], at) {
+            reach(walk, level.looking_from(partner.after));
+            reach(walk, level.with_partner(at, partner));
+        }
+        best
+    }
+
+    // The best of the best so far and the instances that wait among those that the last head, that at
+    // place `at`, completes.
+    fn completed(
+        &self,
+        level: Level,
+        at: usize,
+        start: Option<Due<O::Rank>>,
+    ) -> Option<Due<O::Rank>>
+        requires last { at + 1 ≡ length (listed self.now.rule.now.heads) }
+        ensures value { Ready S.Store self.now.grounds.now.store.now → Blank at level → result ≡ offered (asking_of H.Host O.Order self.now.grounds.now []) (seeing_of S.Store self.now.grounds.now) self.now.number (rule_of self.now.rule.now) start (rest (seeing_of S.Store self.now.grounds.now).facts (listed self.now.rule.now.heads) at level) }
+    {
+        let head = self.rule.heads.as_slice()[at];
+        let mut best = start;
+        let mut looking = level;
+        while let Some(partner) = looking.partner(self.grounds.store, head, at) {
+            let chosen = looking.with_partner(at, partner);
+            let ids = chosen.ids;
+            let firing = Firing {
+                rule: self.number,
+                ids,
+            };
+            best = self.grounds.consider(self.rule, firing, partner.env, best);
+            looking.from = partner.after;
+        }
+        best
+    }
 }

@@ -1,34 +1,43 @@
 //! Questions on facts that stand side by side in rising id.
-ghost use Rattle.std.specs.Prelude.{◌≡◌, ◌≤◌, true, ◌&&◌, [], ◌∷◌, ◌++◌, length, Decides, MatchOption, ◌==◌, nat_le, nat_lt, slice_index_or};
+ghost use Rattle.std.specs.Prelude.{◌≡◌, ◌≤◌, true, ◌&&◌, [], ◌∷◌, ◌++◌, length, Decides, MatchOption, ◌==◌, ◌||◌, ◌-◌, nat_le, nat_lt, slice_index_or};
 ghost use Rattle.store.specs.Spots.{place, blank, Spot, Absent};
 ghost use Rattle.store.specs.Store.{AtLeast, next_of, rises, Above};
 
 use facts::{Fact, Id, Kind};
 
-// How many facts have an id below `id`: where a fact of that id stands or would stand.
+// How many facts have an id below `id`: where a fact of that id stands or would stand. Where no id
+// between the first and this one is missing, that is how far it is from the first.
 fn place_of(facts: &[Fact], id: Id) -> usize
     requires { rises facts.now ≡ true }
     ensures value { result ≡ place id facts.now }
     ensures within { result ≤ length facts.now }
 {
-    let mut low = 0;
-    let mut high = facts.len();
-    while low < high {
-        let middle = low + (high - low) / 2;
-        if facts[middle].id < id {
-            low = middle + 1;
-        } else {
-            high = middle;
-        }
+    let guess = facts.first().map_or(0, |first| id.saturating_sub(first.id)) as usize;
+    if is_below(facts, guess, id) && is_above(facts, guess, id) {
+        return guess;
     }
-    low
+    facts.partition_point(|fact| fact.id < id)
+}
+
+// Whether the fact before a place has an id below `id`, or no place is before it.
+fn is_below(facts: &[Fact], at: usize, id: Id) -> bool
+    ensures value { result ≡ (at == 0 || nat_lt (at - 1) (length facts.now) && nat_lt (slice_index_or facts.now (at - 1) blank).id id) }
+{
+    at == 0 || facts.get(at - 1).is_some_and(|fact| fact.id < id)
+}
+
+// Whether the fact at a place has an id not below `id`, or none stands there.
+fn is_above(facts: &[Fact], at: usize, id: Id) -> bool
+    ensures value { result ≡ (nat_le (length facts.now) at || nat_le id (slice_index_or facts.now at blank).id) }
+{
+    facts.get(at).is_none_or(|fact| fact.id >= id)
 }
 
 // Whether the fact at a place is the one with that id.
 fn stands_at(facts: &[Fact], at: usize, id: Id) -> bool
     ensures value { result ≡ (nat_lt at (length facts.now) && (slice_index_or facts.now at blank).id == id) }
 {
-    at < facts.len() && facts[at].id == id
+    facts.get(at).is_some_and(|fact| fact.id == id)
 }
 
 // The place of the fact with that id, or its absence.
@@ -37,41 +46,27 @@ pub(super) fn spot_of(facts: &[Fact], id: Id) -> Option<usize>
     ensures value { MatchOption result (Absent id facts.now) (λ i. Spot id facts.now i) }
 {
     let at = place_of(facts, id);
-    if stands_at(facts, at, id) {
-        Some(at)
-    } else {
-        None
-    }
+    stands_at(facts, at, id).then_some(at)
 }
 
-// Whether a fact is of that kind and not below `from`.
-fn is_next(fact: &Fact, kind: Kind, from: Id) -> bool
-    ensures value { result ≡ (nat_le from fact.now.id && fact.now.kind == kind) }
+// The id of the first of the facts that is of that kind.
+fn first_of(facts: &[Fact], kind: Kind) -> Option<Id>
+    ensures value { result ≡ next_of kind 0 facts.now }
 {
-    fact.id >= from && fact.kind == kind
+    facts
+        .iter()
+        .find(|fact| fact.kind == kind)
+        .map(|fact| fact.id)
 }
 
 // The id of the first of the facts that is of that kind and not below `from`.
-fn first_of(facts: &[Fact], kind: Kind, from: Id) -> Option<Id>
-    ensures value { result ≡ next_of kind from facts.now }
-{
-    for fact in facts {
-        if is_next(fact, kind, from) {
-            return Some(fact.id);
-        }
-    }
-    None
-}
-
-// The id of the first of the facts that is of that kind and not below `from`, passing over those
-// below it by halves.
 pub(super) fn next_in(facts: &[Fact], kind: Kind, from: Id) -> Option<Id>
     requires { rises facts.now ≡ true }
     ensures value { result ≡ next_of kind from facts.now }
     ensures bound { AtLeast from result }
 {
     let at = place_of(facts, from);
-    first_of(&facts[at..], kind, from)
+    first_of(&facts[at..], kind)
 }
 
 // Whether a fact may follow: its id is above all of theirs, which it is if it is above the last.

@@ -23,13 +23,15 @@ impl Reader {
     }
 
     /// Reads a whole file; its first 34,691 bytes decide.
+    #[tactic(auto, using(crate::proofs::Decisive::first_bytes_decide))]
     pub fn read(self, file: &[u8]) -> Result<Week, At>
         ensures value { answer_of result ≡ reading file.now }
         ensures decides { reading file.now ≡ reading (first_bytes file.now) }
     {
-        let Reader { draft, goals } = self;
-        let mut draft = draft;
-        let mut goals = goals;
+        let Reader {
+            mut draft,
+            mut goals,
+        } = self;
         let start = read_rules(&mut draft, file)?;
         none_open(&draft, file)?;
         let fault = read_goals(&mut goals, file, start);

@@ -4,7 +4,9 @@ use Rattle.meaning.specs.Firing.{body_of}
 use Rattle.firing.proofs.Bodies.{onward}
 use Rattle.firing.proofs.body.body.Given as goal
 
-abbrev pub invariant-loop-i : goal.invariant-loop-i
-invariant-loop-i g l =
-    (length (listed l.done) ≡ l.i)
-    × (onward (g.H.Host.works l.host) l.env (listed l.done) (drop l.i l.facts) (l.i + 1) ≡ body_of (g.H.Host.works l.host) l.env l.facts 1)
+-- what is done, then the facts that are left, is the whole body
+abbrev pub invariant-loop-place : goal.invariant-loop-place
+invariant-loop-place g l = record {
+  counted : length (listed l.done) ≡ l.place;
+  whole : onward (g.H.Host.works l.host) l.env (listed l.done) (drop l.place l.facts) (l.place + 1) ≡ body_of (g.H.Host.works l.host) l.env l.facts 1;
+}

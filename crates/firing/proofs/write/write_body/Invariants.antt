@@ -1,14 +1,13 @@
 use Rattle.std.proofs.Common.{◌≡◌, ◌++◌, drop}
 use Rattle.meaning.specs.Firing.{numbered_from}
+use Rattle.firing.specs.Changes.{Changes}
 use Rattle.firing.specs.Room.{Room}
 use Rattle.firing.proofs.write.write_body.Given as goal
 
--- there is room for what is left, and it ends as it should
-abbrev pub invariant-loop-i : goal.invariant-loop-i
-invariant-loop-i g l =
-    (g.S.Store.sound l.initial.store → g.S.Store.sound l.store)
-    × (g.S.Store.sound l.initial.store → Room (g.S.Store.live l.initial.store) (g.S.Store.rows l.initial.store) l.next l.facts
-    → Room (g.S.Store.live l.store) (g.S.Store.rows l.store) l.id (drop l.i l.facts))
-    × (g.S.Store.sound l.initial.store → Room (g.S.Store.live l.initial.store) (g.S.Store.rows l.initial.store) l.next l.facts
-    → g.S.Store.live l.store ++ numbered_from l.id (drop l.i l.facts) ≡ g.S.Store.live l.initial.store ++ numbered_from l.next l.facts)
-    × (g.S.Store.rows l.store ≡ g.S.Store.rows l.initial.store)
+-- where there was room for all, there is room for what is left, and it ends as it should
+abbrev pub invariant-loop-fact : goal.invariant-loop-fact
+invariant-loop-fact g l =
+    Changes g.S.Store l.initial.store l.store (λ live.
+    Room (g.S.Store.live l.initial.store) (g.S.Store.rows l.initial.store) l.next l.facts
+    → Room live (g.S.Store.rows l.store) l.id (drop l.fact-index l.facts)
+    × (live ++ numbered_from l.id (drop l.fact-index l.facts) ≡ g.S.Store.live l.initial.store ++ numbered_from l.next l.facts))

@@ -1,4 +1,4 @@
-use Rattle.facts.proofs.Tests.{all_more, all_fails, all_passed}
+use Rattle.matching.proofs.Tests.{all_more, all_fails, all_passed}
 use Rattle.matching.proofs.guards.applicable.Goals as goal
 
 pub returns-then-not-says_yes : goal.returns-then-not-says_yes

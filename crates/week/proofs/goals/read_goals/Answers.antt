@@ -1,10 +1,7 @@
 use Rattle.std.proofs.Common.{◌+◌, vec_items, sym, subst, ⊎_elim, arith}
-use Rattle.std.proofs.lemmas.List.{take_rest, nil_from_length}
-use Rattle.week.proofs.Places.{GoalsAhead, goals_start, goals_full, goals_over, goals_fault, goals_more}
+use Rattle.std.proofs.lemmas.List.{take_rest}
+use Rattle.week.proofs.Places.{GoalsAhead, goals_full, goals_over, goals_fault, goals_more}
 use Rattle.week.proofs.goals.read_goals.Goals as goal
-
-pub loop-goal-init : goal.loop-goal-init
-loop-goal-init c = (c.requires.room, goals_start _ _ _ (nil_from_length _ (omega arith)) c.requires.within)
 
 pub returns-then-len-ge-MOST_GOALS : goal.returns-then-len-ge-MOST_GOALS
 returns-then-len-ge-MOST_GOALS c = record {

@@ -1,23 +1,14 @@
 use Rattle.std.proofs.Common.{ℕ, ◌+◌, sym, subst}
 use Rattle.std.proofs.lemmas.List.{take_rest}
 use Rattle.book.specs.Held.{draft_of}
-use Rattle.week.proofs.Places.{Ahead, ahead_start, ahead_end, ahead_fault, ahead_more}
+use Rattle.week.proofs.Places.{Ahead, ahead_end, ahead_fault, ahead_more}
 use Rattle.week.proofs.rule_records.read_rules.Goals as goal
 
-pub loop-draft-init : goal.loop-draft-init
-loop-draft-init c = ahead_start (draft_of c.args.draft.now) c.args.file.now
+pub returns-then-rules_end-clause-value : goal.returns-then-rules_end-clause-value
+returns-then-rules_end-clause-value c = ahead_end _ _ _ _ c.loop-draft.invariant (rw take_rest at c.if-rules_end.ensures.value)
 
-pub returns-then-rules_end : goal.returns-then-rules_end
-returns-then-rules_end c = record {
-  value = ahead_end _ _ _ _ c.loop-draft.invariant (rw take_rest at c.if-rules_end.ensures.value);
-  within = c.loop-draft.invariant.0;
-}
-
-pub returns-in-Err : goal.returns-in-Err
-returns-in-Err c = record {
-  value = ahead_fault _ _ _ _ c.loop-draft.invariant c.in-Err.fault (rw take_rest at c.if-rules_end.ensures.value) (rw take_rest at c.in-Err.ensures.value);
-  within = tt;
-}
+pub returns-in-Err-clause-value : goal.returns-in-Err-clause-value
+returns-in-Err-clause-value c = ahead_fault _ _ _ _ c.loop-draft.invariant c.in-Err.fault (rw take_rest at c.if-rules_end.ensures.value) (rw take_rest at c.in-Err.ensures.value)
 
 pub loop-draft-preserved : goal.loop-draft-preserved
 loop-draft-preserved c =

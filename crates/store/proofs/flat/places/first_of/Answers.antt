@@ -1,14 +1,13 @@
-use Rattle.std.proofs.Common.{sym, ◌∙◌}
-use Rattle.store.proofs.Spots.{next_there, next_past, next_all}
+use Rattle.std.proofs.Common.{◌≡◌, eqb, ◌∙◌, rules, tests, Bor}
+use Rattle.std.proofs.lemmas.Iterator.{YieldsList-from_slice}
+use Rattle.std.proofs.lemmas.Iterator.Search.{find_from_yields_List}
+use Rattle.std.specs.Option.{option_map}
+use Rattle.facts.specs.declared.Fact.{Fact}
+use Rattle.store.proofs.Spots.{next_lent}
 use Rattle.store.proofs.flat.places.first_of.Goals as goal
 
-pub returns-then-is_next : goal.returns-then-is_next
-returns-then-is_next c =
-    record { value = sym (next_there _ _ _ _ c.loop-fact-test.true (sym c.if-is_next.ensures.value)) ∙ c.loop-fact.invariant }
-
-pub loop-fact-preserved : goal.loop-fact-preserved
-loop-fact-preserved c =
-    sym (next_past _ _ _ _ c.loop-fact-test.true (sym c.if-is_next.ensures.value)) ∙ c.loop-fact.invariant
-
 pub returns : goal.returns
-returns c = record { value = sym (next_all _ _ _ _ c.loop-fact-test.false) ∙ c.loop-fact.invariant }
+returns c =
+    let found = find_from_yields_List (λ (f : Fact). eqb f.kind c.args.kind) _ _ c.find.result c.find.ensures.ran (YieldsList-from_slice c.args.facts.now (cc)) (λ x b q k. search (rules, tests)) in
+    let mapped : c.map.result ≡ option_map (λ (b : Bor Fact). b.now.id) c.find.result = search rules in
+    record { value = mapped ∙ next_lent c.args.facts.now c.args.kind _ found }

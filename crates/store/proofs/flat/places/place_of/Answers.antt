@@ -1,17 +1,16 @@
-use Rattle.std.proofs.Common.{◌+◌, ◌-◌, ◌/◌, ◌<◌, zero-le, arith}
-use Rattle.store.specs.Spots.{place}
+use Rattle.std.proofs.Common.{sym, ltb, rules}
+use Rattle.std.proofs.lemmas.List.Sorted.{IsPartitionPoint-from_clause}
+use Rattle.facts.specs.declared.Fact.{Fact}
 use Rattle.store.specs.Rises.{rising_from_test}
-use Rattle.store.proofs.Spots.{place_within, place_over, place_under}
+use Rattle.store.proofs.Spots.{rising_parts, place_from_guess, place_from_point}
 use Rattle.store.proofs.flat.places.place_of.Goals as goal
 
-pub loop-low-init : goal.loop-low-init
-loop-low-init c = (zero-le, place_within _ _, omega arith)
+pub returns-clause-value : goal.returns-clause-value
+returns-clause-value c =
+    let parts = rising_parts c.args.facts.now c.args.id (rising_from_test _ c.requires) in
+    place_from_point _ _ _ c.partition_point.ensures.bound
+    (IsPartitionPoint-from_clause (λ (f : Fact). ltb f.id c.args.id) _ _ c.partition_point.ensures.partitioned parts (λ a r q k. search rules))
 
-pub loop-low-preserved-then-facts-middle : goal.loop-low-preserved-then-facts-middle
-loop-low-preserved-then-facts-middle c =
-    let over : c.loop-low.low + (c.loop-low.high - c.loop-low.low) / 2 < place c.args.id c.args.facts.now
-    = place_over c.args.facts.now c.args.id _ _ (rising_from_test c.args.facts.now c.requires) (omega arith) c.if-facts-middle.true in
-    (omega arith, c.loop-low.invariant.1, c.loop-low.invariant.2)
-
-pub loop-low-preserved : goal.loop-low-preserved
-loop-low-preserved c = (c.loop-low.invariant.0, place_under _ _ _ _ (omega arith) c.if-facts-middle.false, omega arith)
+pub returns-then-is_above-clause-value : goal.returns-then-is_above-clause-value
+returns-then-is_above-clause-value c =
+    place_from_guess _ _ _ (rising_from_test _ c.requires) (sym c.if-is_below.ensures.value) (sym c.if-is_above.ensures.value)
