@@ -11,7 +11,6 @@ use order::plain::Plain;
 use report::conduct::{Unread, conduct};
 use report::print::print;
 use std::alloc::Global;
-use std::io;
 use std::io::{BufWriter, Read, Write};
 use store::Store;
 use store::flat::Flat;
@@ -23,24 +22,35 @@ const DECIDING_BYTES: usize = 34_691;
 const ROWS: usize = 1024;
 
 // The first bytes of an input, as many as decide, or all of them.
-fn first_bytes(heap: Global, input: impl Read + Drop) -> io::Result<Vec<u8>> {
-    // One place more than can be filled, so that no read makes the list grow.
-    let mut bytes = Vec::with_capacity(heap, DECIDING_BYTES + 1)?;
-    input.take(DECIDING_BYTES as u64).read_to_end(&mut bytes)?;
+// Kept as a loop of its own: each read has room for all that is left, so that no message of a socket is cut.
+fn first_bytes(heap: Global, input: &mut impl Read) -> anyhow::Result<Vec<u8>> {
+    let mut bytes = vec![in heap; 0u8; DECIDING_BYTES]?;
+    let mut filled = 0;
+    for _ in 0..=DECIDING_BYTES {
+        if filled >= bytes.len() {
+            break;
+        }
+        let count = input.read(&mut bytes[filled..])?;
+        if count == 0 {
+            break;
+        }
+        filled += count;
+    }
+    bytes.truncate(filled);
     Ok(bytes)
 }
 
 fn run(rt: &HostRuntime) -> anyhow::Result<()> {
     let heap = rt.alloc();
-    let file = first_bytes(heap, rt.stdin())?;
+    let file = first_bytes(heap, &mut rt.stdin())?;
     let rows = vec![in heap; BLANK; ROWS]?;
-    let week = conduct(heap, &file, Flat::new(rows), Counts, Plain);
-    let mut out = BufWriter::new(heap, rt.stdout())?;
-    match week {
-        Ok(ended) => print(&mut out, &ended)?,
-        Err(Unread::Refused(refused)) => writeln!(out, "{refused}")?,
+    let week = match conduct(heap, &file, Flat::new(rows), Counts, Plain) {
+        Ok(ended) => Ok(ended),
+        Err(Unread::Refused(refused)) => Err(refused),
         Err(Unread::NoMemory) => return Err(anyhow!("no memory")),
-    }
+    };
+    let mut out = BufWriter::new(heap, rt.stdout())?;
+    print(&mut out, &week)?;
     out.flush()?;
     Ok(())
 }

@@ -13,6 +13,9 @@ use meaning::written::Written;
 use records::parts::Operand;
 use rules::BodyFact;
 
+// How many facts a body has at most.
+const BODY_FACTS: usize = 4;
+
 /// A blank fact, for the places of a body that is not worked out yet.
 pub const BLANK: Written = Written {
     kind: 0,
@@ -30,6 +33,9 @@ pub fn body<H: Host>(
 {
     let mut done = Few::none(BLANK);
     for (place, fact) in facts.iter().enumerate() {
+        if place >= BODY_FACTS {
+            return Ok(done);
+        }
         let one = worked_out(host, env, *fact, number_at(place))?;
         let Ok(()) = done.push(one) else {
             return Ok(done);
@@ -86,5 +92,10 @@ fn value_at<H: Host>(
 fn put(env: Env, working: Working<Operand>) -> Working<Value>
     ensures value { result ≡ put env working }
 {
-    working.map(|operand| worth(env, operand))
+    // Kept as a match: a method of the working would take a closure, and no public call asks that it may be called.
+    match working {
+        Working::Copy(a) => Working::Copy(worth(env, a)),
+        Working::Sum(a, b) => Working::Sum(worth(env, a), worth(env, b)),
+        Working::Difference(a, b) => Working::Difference(worth(env, a), worth(env, b)),
+    }
 }

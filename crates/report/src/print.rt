@@ -1,4 +1,5 @@
 use crate::conduct::Ended;
+use crate::outcome::Refused;
 use host::host::Host;
 use meaning::roll::Entry;
 use order::order::Order;
@@ -7,15 +8,19 @@ use std::io;
 use std::io::Write;
 use store::Store;
 
-/// Prints the roll, the store in rising id and the last line.
+/// Prints the roll, the store in rising id and the last line; of a refused reading that line alone.
 pub fn print<S: Store, H: Host, O: Order>(
     out: &mut impl Write,
-    week: &Ended<S, H, O>,
+    week: &Result<Ended<S, H, O>, Refused>,
 ) -> io::Result<()> {
-    let Ended { run, outcome } = week;
-    roll_lines(out, run.roll())?;
-    store_lines(out, run)?;
-    writeln!(out, "{outcome}")
+    match week {
+        Err(refused) => writeln!(out, "{refused}"),
+        Ok(Ended { run, outcome }) => {
+            roll_lines(out, run.roll())?;
+            store_lines(out, run)?;
+            writeln!(out, "{outcome}")
+        }
+    }
 }
 
 fn roll_lines(out: &mut impl Write, roll: &[Entry]) -> io::Result<()> {

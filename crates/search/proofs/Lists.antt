@@ -1,6 +1,7 @@
 -- Lists that are joined, and a list of which nothing is left.
-use Rattle.std.proofs.Common.{◌≡◌, ◌<◌, List, [], ◌∷◌, ◌++◌, length, fold, sym, refl, ap, ◌∙◌, append_assoc, arith}
+use Rattle.std.proofs.Common.{◌≡◌, ◌<◌, List, [], ◌∷◌, ◌++◌, length, fold, Some, None, Option, sym, refl, ap, ◌∙◌, append_assoc, arith, length-append}
 use Rattle.std.specs.List.{flat_map}
+use Rattle.std.specs.Option.{option_to_list, IsSome}
 
 pub joined_append : {A B : Type 0} (f : A → List B) (xs ys : List A) → flat_map f (xs ++ ys) ≡ flat_map f xs ++ flat_map f ys
 joined_append f [] ys = refl
@@ -14,3 +15,8 @@ folded_append f b (x ∷ xs) ys = folded_append f (f b x) xs ys
 pub none_left : {A : Type 0} (xs : List A) → (0 < length xs → ⊥) → xs ≡ []
 none_left [] h = refl
 none_left (x ∷ xs) h = absurd (h (omega arith))
+
+-- nothing stands in the walk or beside it, where nothing stands beside it
+pub nothing_left : {A : Type 0} (xs : List A) (o : Option A) → (0 < length xs → IsSome o) → o ≡ None → 0 < length (xs ++ option_to_list o) → ⊥
+nothing_left xs None some none h = let s = some (omega (arith, length-append xs [])) in cc
+nothing_left xs (Some x) some none h = cc

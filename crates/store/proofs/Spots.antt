@@ -1,14 +1,14 @@
 -- Places in a list of facts in rising id: what a search by halves goes by, and what stands there.
-use Rattle.std.proofs.Common.{◌≡◌, ◌==◌, ◌||◌, ◌⊎◌, inl, inr, ℕ, zero, suc, ◌-◌, ◌<◌, ◌≤◌, Bool, true, false, cond, ◌&&◌, eqb, ltb, leb, List, [], ◌∷◌, ◌++◌, length, get_or, take, drop, Some, None, Option, Bor, sym, refl, ap, ◌∙◌, zero-le, arith}
+use Rattle.std.proofs.Common.{◌≡◌, ◌==◌, ◌||◌, inl, inr, ℕ, zero, suc, ◌+◌, ◌-◌, ◌<◌, ◌≤◌, Bool, true, false, cond, ◌&&◌, eqb, ltb, leb, List, [], ◌∷◌, ◌++◌, length, get_or, take, drop, Some, None, Option, Bor, sym, refl, ap, ◌∙◌, zero-le, arith}
 use Rattle.std.specs.List as list
 use Rattle.std.specs.List.{remove}
 use Rattle.std.specs.List.Sorted.{IsNonDecreasingBy, IsPartitionedBy, IsPartitionPoint}
 use Rattle.std.specs.Option.{option_map, MatchOption}
 use Rattle.std.specs.Bool.{then_some}
 use Rattle.std.proofs.lemmas.List.Sorted.{IsPartitionedBy-ltb}
-use Rattle.std.proofs.lemmas.List.Sums.{prefix_len_passes, prefix_len_stops, prefix_len_is}
+use Rattle.std.proofs.lemmas.List.Sums.{prefix_len_passes, prefix_len_stops, prefix_len_is, prefix_len-le-length}
 use Rattle.std.proofs.lemmas.List.{take_rest}
-use Rattle.std.proofs.lemmas.Bool.{both_ways, and_from, and_parts, or_cases, leb-true, le-ltb, eqb-true, ltb-true, ltb-false, lt-ltb, lt-leb, le-leb, ne_eqb, eq-eqb, cond-true, cond-false, and_left}
+use Rattle.std.proofs.lemmas.Bool.{leb-true, leb-false, both_ways, and_from, and_parts, or_cases, eqb-true, ltb-true, ltb-false, lt-ltb, lt-leb, le-leb, ne_eqb, eq-eqb, cond-true, cond-false, and_left}
 use Rattle.facts.specs.declared.Fact.{Fact}
 use Rattle.store.specs.Store.{find, without, next_of, rises, Above, Beneath, Rising}
 use Rattle.store.specs.Spots.{place, blank, Spot, Absent}
@@ -50,36 +50,121 @@ pub place_from_point : (fs : List Fact) (id at : ℕ) → at ≤ length fs → I
 place_from_point fs id at l p =
     sym (prefix_len_is (λ (f : Fact). ltb f.id id) fs at blank l (λ k h. p.0 k blank zero-le h) (λ h. p.1 at blank (omega arith) h))
 
--- so does a guess, if what stands before it is below the id and what stands there is not
-pub place_from_guess : (fs : List Fact) (id at : ℕ) → Rising fs
-    → (at == 0 || ltb (at - 1) (length fs) && ltb (get_or fs (at - 1) blank).id id) ≡ true
-    → (leb (length fs) at || leb id (get_or fs at blank).id) ≡ true → at ≡ place id fs
-place_from_guess fs id at r before there =
-    sym (prefix_len_is (λ (f : Fact). ltb f.id id) fs at blank within passes stops)
+-- Where it can be.
+
+-- from a fact to a later one the id grows by as many places at least
+spread : (fs : List Fact) (i j : ℕ) → Rising fs → i ≤ j → j < length fs → (get_or fs i blank).id + (j - i) ≤ (get_or fs j blank).id
+spread [] i j r l h = absurd (omega arith)
+spread (f ∷ fs) zero zero r l h = omega arith
+spread (f ∷ fs) zero (suc j) r l h =
+    let b = beneath_getD fs f.id 0 blank r.0 (omega arith) in
+    let s = spread fs 0 j r.1 zero-le (omega arith) in omega arith
+spread (f ∷ fs) (suc i) zero r l h = absurd (omega arith)
+spread (f ∷ fs) (suc i) (suc j) r l h = let s = spread fs i j r.1 (omega arith) (omega arith) in omega arith
+
+pub place_within : (fs : List Fact) (id : ℕ) → place id fs ≤ length fs
+place_within fs id = prefix_len-le-length (λ (f : Fact). ltb f.id id) fs
+
+-- no more facts stand before the place than ids lie between
+pub place_most : (fs : List Fact) (id : ℕ) → Rising fs → place id fs ≤ id - (get_or fs 0 blank).id
+place_most fs id r = go (place id fs) refl where
+  go : (p : ℕ) → place id fs ≡ p → p ≤ id - (get_or fs 0 blank).id
+  go zero e = zero-le
+  go (suc k) e =
+      let w = place_within fs id in
+      let b = before_place fs id k (omega arith) in
+      let s = spread fs 0 k r zero-le (omega arith) in omega arith
+
+-- and no more from it on, up to a later fact, than up to that fact's id
+pub place_least : (fs : List Fact) (id at : ℕ) → Rising fs → at < length fs → at - ((get_or fs at blank).id - id) ≤ place id fs
+place_least fs id at r h = go (leb (place id fs) at) refl where
+  go : (b : Bool) → leb (place id fs) at ≡ b → at - ((get_or fs at blank).id - id) ≤ place id fs
+  go true e =
+      let l = leb-true _ _ e in
+      let a = at_place fs id (omega arith) in
+      let s = spread fs (place id fs) at r l h in omega arith
+  go false e = let l = leb-false _ _ e in omega arith
+
+-- it is the last place where it can be, if the fact before that is below the id
+pub place_is_last : (fs : List Fact) (id at : ℕ) → Rising fs → place id fs ≤ at → at ≤ length fs
+    → (at == 0 || ltb (at - 1) (length fs) && ltb (get_or fs (at - 1) blank).id id) ≡ true → at ≡ place id fs
+place_is_last fs id at r most within before =
+    elim (or_cases (at == 0) (ltb (at - 1) (length fs) && ltb (get_or fs (at - 1) blank).id id) before) [
+      | inl e ↦ let z = eqb-true at 0 e in omega arith
+      | inr e ↦
+          let p = and_parts (ltb (at - 1) (length fs)) (ltb (get_or fs (at - 1) blank).id id) e in
+          reach (ltb (place id fs) at) refl (ltb-true (at - 1) (length fs) p.0) (ltb-true (get_or fs (at - 1) blank).id id p.1)
+    ]
   where
-    before_is : (at ≡ 0) ⊎ ((at - 1 < length fs) × ((get_or fs (at - 1) blank).id < id))
-    before_is =
-        elim (or_cases (at == 0) (ltb (at - 1) (length fs) && ltb (get_or fs (at - 1) blank).id id) before) [
-          | inl e ↦ inl (eqb-true at 0 e)
-          | inr e ↦ let p = and_parts (ltb (at - 1) (length fs)) (ltb (get_or fs (at - 1) blank).id id) e in inr (ltb-true (at - 1) (length fs) p.0, ltb-true (get_or fs (at - 1) blank).id id p.1)
-        ]
+    reach : (b : Bool) → ltb (place id fs) at ≡ b → at - 1 < length fs → (get_or fs (at - 1) blank).id < id → at ≡ place id fs
+    reach true e w h =
+        let l = ltb-true _ _ e in
+        let a = at_place fs id (omega arith) in
+        let o = rising_orders fs r (place id fs) (at - 1) blank (omega arith) w in absurd (omega arith)
+    reach false e w h = let l = ltb-false _ _ e in omega arith
 
-    within : at ≤ length fs
-    within = elim before_is [ inl e ↦ omega arith | inr b ↦ let l = b.0 in omega arith ]
+-- and the first, if the fact there is not below the id
+pub place_is_first : (fs : List Fact) (id at : ℕ) → at ≤ place id fs → (leb (length fs) at || leb id (get_or fs at blank).id) ≡ true → at ≡ place id fs
+place_is_first fs id at least there = go (ltb at (place id fs)) refl where
+  go : (b : Bool) → ltb at (place id fs) ≡ b → at ≡ place id fs
+  go true e =
+      let l = ltb-true _ _ e in
+      let w = place_within fs id in
+      let b = before_place fs id at l in
+      elim (or_cases (leb (length fs) at) (leb id (get_or fs at blank).id) there) [
+        | inl q ↦ let k = leb-true _ _ q in absurd (omega arith)
+        | inr q ↦ let k = leb-true _ _ q in absurd (omega arith)
+      ]
+  go false e = let l = ltb-false _ _ e in omega arith
 
-    passes : (k : ℕ) → k < at → ltb (get_or fs k blank).id id ≡ true
-    passes k h =
-        elim before_is [
-          | inl e ↦ absurd (omega arith)
-          | inr b ↦ let o = rising_orders fs r k (at - 1) blank (omega arith) b.0 in let l = b.1 in lt-ltb _ _ (omega arith)
-        ]
+-- The place in a part of the list that has it.
 
-    stops : at < length fs → ltb (get_or fs at blank).id id ≡ false
-    stops h =
-        elim (or_cases (leb (length fs) at) (leb id (get_or fs at blank).id) there) [
-          | inl e ↦ let l = leb-true _ _ e in absurd (omega arith)
-          | inr e ↦ le-ltb _ _ (leb-true _ _ e)
-        ]
+place_dropped : (fs : List Fact) (id low : ℕ) → low ≤ place id fs → low + place id (drop low fs) ≡ place id fs
+place_dropped fs id zero l = omega arith
+place_dropped [] id (suc low) l = absurd (omega arith)
+place_dropped (f ∷ fs) id (suc low) l = go (ltb f.id id) (place_dropped fs id low) l where
+  go : (b : Bool) → (low ≤ place id fs → low + place id (drop low fs) ≡ place id fs) → suc low ≤ cond b (1 + place id fs) 0
+      → suc low + place id (drop low fs) ≡ cond b (1 + place id fs) 0
+  go true e h = let q = e (omega arith) in omega arith
+  go false e h = absurd (omega arith)
+
+place_taken : (fs : List Fact) (id n : ℕ) → place id fs ≤ n → place id (take n fs) ≡ place id fs
+place_taken [] id zero l = refl
+place_taken [] id (suc n) l = refl
+place_taken (f ∷ fs) id zero l = sym (go (place id (f ∷ fs)) l) where
+  go : (p : ℕ) → p ≤ 0 → p ≡ 0
+  go p h = omega arith
+place_taken (f ∷ fs) id (suc n) l = go (ltb f.id id) (place_taken fs id n) l where
+  go : (b : Bool) → (place id fs ≤ n → place id (take n fs) ≡ place id fs) → cond b (1 + place id fs) 0 ≤ suc n
+      → cond b (1 + place id (take n fs)) 0 ≡ cond b (1 + place id fs) 0
+  go true e h = ap (λ p. 1 + p) (e (omega arith))
+  go false e h = refl
+
+beneath_taken : (fs : List Fact) (id n : ℕ) → Beneath id fs → Beneath id (take n fs)
+beneath_taken fs id zero b = tt
+beneath_taken [] id (suc n) b = tt
+beneath_taken (f ∷ fs) id (suc n) b = (b.0, beneath_taken fs id n b.1)
+
+rising_taken : (fs : List Fact) (n : ℕ) → Rising fs → Rising (take n fs)
+rising_taken fs zero r = tt
+rising_taken [] (suc n) r = tt
+rising_taken (f ∷ fs) (suc n) r = (beneath_taken fs f.id n r.0, rising_taken fs n r.1)
+
+rising_dropped : (fs : List Fact) (n : ℕ) → Rising fs → Rising (drop n fs)
+rising_dropped fs zero r = r
+rising_dropped [] (suc n) r = tt
+rising_dropped (f ∷ fs) (suc n) r = rising_dropped fs n r.1
+
+-- such a part is in rising id too
+pub rising_part : (fs : List Fact) (low n : ℕ) → Rising fs → Rising (take n (drop low fs))
+rising_part fs low n r = rising_taken (drop low fs) n (rising_dropped fs low r)
+
+-- and what is searched for in it is found for the whole
+pub place_from_part : (fs : List Fact) (id low high at : ℕ) → low ≤ place id fs → place id fs ≤ high
+    → at ≡ place id (take (high - low) (drop low fs)) → low + at ≡ place id fs
+place_from_part fs id low high at least most e =
+    let d = place_dropped fs id low least in
+    let t = place_taken (drop low fs) id (high - low) (omega arith) in omega arith
 
 above_from_each : (fs : List Fact) (id : ℕ) (d : Fact) → ((i : ℕ) → i < length fs → (get_or fs i d).id < id) → Above id fs
 above_from_each [] id d h = tt

@@ -1,5 +1,5 @@
-//! The flat store: its live facts stand side by side in rising id. One is looked for where it stands if
-//! no id before it is missing, and else by halves.
+//! The flat store: its live facts stand side by side in rising id. One is looked for at the last place where
+//! it can stand, and else by halves from the first such place on.
 //!
 //! The memory is the caller's: given when the store is made, given back by `into_rows`. The store
 //! claims none of its own.

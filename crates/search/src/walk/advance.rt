@@ -47,13 +47,14 @@ impl Level {
         Level { ids, env, from: 0 }
     }
 
-    // The next partner of this head, the head at place `at`.
-    fn partner<S: Store>(&self, store: &S, head: Head, at: usize) -> Option<Partner>
+    // The next partner of this head, the head at place `at`, from an id on.
+    #[inline(always)]
+    fn partner<S: Store>(&self, store: &S, head: Head, at: usize, from: Id) -> Option<Partner>
         requires { at < 4 }
-        ensures later { Later self.now.from result }
-        ensures found { Ready S.Store store.now → Partnered head (take at self.now.ids) self.now.env (S.Store.live store.now) self.now.from result }
+        ensures later { Later from result }
+        ensures found { Ready S.Store store.now → Partnered head (take at self.now.ids) self.now.env (S.Store.live store.now) from result }
     {
-        next_partner(store, head, &self.ids[..at], self.env, self.from)
+        next_partner(store, head, &self.ids[..at], self.env, from)
     }
 }
 
@@ -70,49 +71,50 @@ impl<'a, S: Store, H: Host, O: Order> RuleSearch<'a, S, H, O> {
     pub fn advance(
         &self,
         walk: &mut Walk,
-        level: Level,
+        level: &Level,
         best: Option<Due<O::Rank>>,
     ) -> Option<Due<O::Rank>>
         requires reached { length (listed walk.old) < length (listed self.now.rule.now.heads) }
         ensures within { length (listed walk.new) ≤ length (listed self.now.rule.now.heads) }
-        ensures lighter { weight 3 (listed walk.new) < weight 3 (listed walk.old ++ level ∷ []) }
-        ensures advanced { Ready S.Store self.now.grounds.now.store.now → Advanced (asking_of H.Host O.Order self.now.grounds.now []) (seeing_of S.Store self.now.grounds.now) self.now.number (rule_of self.now.rule.now) (listed walk.old ++ level ∷ []) (listed walk.new) best result }
+        ensures lighter { weight 3 (listed walk.new) < weight 3 (listed walk.old ++ level.now ∷ []) }
+        ensures advanced { Ready S.Store self.now.grounds.now.store.now → Advanced (asking_of H.Host O.Order self.now.grounds.now []) (seeing_of S.Store self.now.grounds.now) self.now.number (rule_of self.now.rule.now) (listed walk.old ++ level.now ∷ []) (listed walk.new) best result }
     {
         let at = walk.len();
         let heads = self.rule.heads.as_slice();
         if at + 1 == heads.len() {
             return self.completed(level, at, best);
         }
-        if let Some(partner) = level.partner(self.grounds.store, heads[at], at) {
+        if let Some(partner) = level.partner(self.grounds.store, heads[at], at, level.from) {
             reach(walk, level.looking_from(partner.after));
             reach(walk, level.with_partner(at, partner));
         }
         best
     }
 
-    // The best of the best so far and the instances that wait among those that the last head, that at
-    // place `at`, completes.
-    fn completed(
+    /// The best of the best so far and the instances that wait among those that the last head, that at
+    /// place `at`, completes.
+    #[inline(always)]
+    pub fn completed(
         &self,
-        level: Level,
+        level: &Level,
         at: usize,
         start: Option<Due<O::Rank>>,
     ) -> Option<Due<O::Rank>>
         requires last { at + 1 ≡ length (listed self.now.rule.now.heads) }
-        ensures value { Ready S.Store self.now.grounds.now.store.now → Blank at level → result ≡ offered (asking_of H.Host O.Order self.now.grounds.now []) (seeing_of S.Store self.now.grounds.now) self.now.number (rule_of self.now.rule.now) start (rest (seeing_of S.Store self.now.grounds.now).facts (listed self.now.rule.now.heads) at level) }
+        ensures value { Ready S.Store self.now.grounds.now.store.now → Blank at level.now → result ≡ offered (asking_of H.Host O.Order self.now.grounds.now []) (seeing_of S.Store self.now.grounds.now) self.now.number (rule_of self.now.rule.now) start (rest (seeing_of S.Store self.now.grounds.now).facts (listed self.now.rule.now.heads) at level.now) }
     {
         let head = self.rule.heads.as_slice()[at];
         let mut best = start;
-        let mut looking = level;
-        while let Some(partner) = looking.partner(self.grounds.store, head, at) {
-            let chosen = looking.with_partner(at, partner);
+        let mut from = level.from;
+        while let Some(partner) = level.partner(self.grounds.store, head, at, from) {
+            let chosen = level.with_partner(at, partner);
             let ids = chosen.ids;
             let firing = Firing {
                 rule: self.number,
                 ids,
             };
             best = self.grounds.consider(self.rule, firing, partner.env, best);
-            looking.from = partner.after;
+            from = partner.after;
         }
         best
     }

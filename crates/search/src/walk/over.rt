@@ -1,4 +1,5 @@
 ghost use Rattle.std.specs.Prelude.{◌≡◌, ◌<◌, if◌then◌else◌, true, [], ◌∷◌, nat_lt};
+ghost use Rattle.std.specs.Option.{option_to_list};
 ghost use Rattle.few.specs.Few.{listed};
 ghost use Rattle.rules.specs.Rules.{rule_of, headed};
 ghost use Rattle.matching.specs.Grounds.{asking_of, seeing_of};
@@ -7,23 +8,21 @@ ghost use Rattle.meaning.specs.Enumeration.{instances, unbound};
 ghost use Rattle.search.specs.Offers.{offered};
 ghost use Rattle.search.specs.Walks.{first_level};
 
-use crate::walk::advance::reach;
 use crate::walk::{Level, RuleSearch, Walk};
-use few::Few;
 use host::host::Host;
 use meaning::due::Due;
 use order::order::Order;
 use store::Store;
 
-/// The first head is reached, if there is one.
-pub fn started(heads: usize) -> Walk
-    ensures value { listed result ≡ (if nat_lt 0 heads then first_level ∷ [] else []) }
+/// The level of the first head, if there is one.
+pub fn started(heads: usize) -> Option<Level>
+    ensures value { option_to_list result ≡ (if nat_lt 0 heads then first_level ∷ [] else []) }
 {
-    let mut walk = Few::none(Level::first());
     if heads > 0 {
-        reach(&mut walk, Level::first());
+        Some(Level::first())
+    } else {
+        None
     }
-    walk
 }
 
 impl<'a, S: Store, H: Host, O: Order> RuleSearch<'a, S, H, O> {
@@ -31,11 +30,21 @@ impl<'a, S: Store, H: Host, O: Order> RuleSearch<'a, S, H, O> {
     pub fn best(&self, start: Option<Due<O::Rank>>) -> Option<Due<O::Rank>>
         ensures value { Ready S.Store self.now.grounds.now.store.now → headed (rule_of self.now.rule.now) ≡ true → result ≡ offered (asking_of H.Host O.Order self.now.grounds.now []) (seeing_of S.Store self.now.grounds.now) self.now.number (rule_of self.now.rule.now) start (instances (seeing_of S.Store self.now.grounds.now).facts (listed self.now.rule.now.heads) [] unbound) }
     {
-        let mut walk = started(self.rule.heads.len());
+        let heads = self.rule.heads.len();
+        let Some(first) = started(heads) else {
+            return start;
+        };
+        if heads == 1 {
+            return self.completed(&first, 0, start);
+        }
+        // The deepest level stands beside the others, so that it is not put into the walk and taken out again.
+        let mut walk = Walk::none(first);
+        let mut deepest = Some(first);
         let mut best = start;
         // Kept as a loop over the walk, a required form: heads go by their place while instances are sought.
-        while let Some(level) = walk.pop() {
+        while let Some(level) = &deepest {
             best = self.advance(&mut walk, level, best);
+            deepest = walk.pop();
         }
         best
     }

@@ -5,18 +5,46 @@ ghost use Rattle.store.specs.Store.{AtLeast, next_of, rises, Above};
 
 use facts::{Fact, Id, Kind};
 
-// How many facts have an id below `id`: where a fact of that id stands or would stand. Where no id
-// between the first and this one is missing, that is how far it is from the first.
+// How many facts have an id below `id`: where a fact of that id stands or would stand. It is looked for
+// at the last and at the first place where that can be, and else by halves between them.
 fn place_of(facts: &[Fact], id: Id) -> usize
     requires { rises facts.now ≡ true }
     ensures value { result ≡ place id facts.now }
     ensures within { result ≤ length facts.now }
 {
-    let guess = facts.first().map_or(0, |first| id.saturating_sub(first.id)) as usize;
-    if is_below(facts, guess, id) && is_above(facts, guess, id) {
-        return guess;
+    let high = last_place(facts, id);
+    if is_below(facts, high, id) {
+        return high;
     }
-    facts.partition_point(|fact| fact.id < id)
+    let low = first_place(facts, high, id);
+    if is_above(facts, low, id) {
+        return low;
+    }
+    low + facts[low..high].partition_point(|fact| fact.id < id)
+}
+
+// The last place where it can be: no more facts stand before it than there are ids from the first fact's on.
+fn last_place(facts: &[Fact], id: Id) -> usize
+    requires { rises facts.now ≡ true }
+    ensures most { place id facts.now ≤ result }
+    ensures within { result ≤ length facts.now }
+{
+    let before = facts.first().map_or(0, |first| id.saturating_sub(first.id));
+    facts.len().min(before as usize)
+}
+
+// The first place where it can be, if it is below a place `at`: no more facts stand from it on, up to the one
+// before `at`, than there are ids up to that fact's.
+fn first_place(facts: &[Fact], at: usize, id: Id) -> usize
+    requires rising { rises facts.now ≡ true }
+    requires most { place id facts.now ≤ at }
+    requires within { at ≤ length facts.now }
+    ensures least { result ≤ place id facts.now }
+{
+    let Some(last) = at.checked_sub(1) else {
+        return 0;
+    };
+    last.saturating_sub(facts[last].id.saturating_sub(id) as usize)
 }
 
 // Whether the fact before a place has an id below `id`, or no place is before it.
