@@ -9,7 +9,7 @@ use facts::BLANK;
 use host::counts::Counts;
 use order::plain::Plain;
 use report::conduct::{Unread, conduct};
-use report::print::print;
+use report::print::print_week;
 use std::alloc::Global;
 use std::io::{BufWriter, Read, Write};
 use store::Store;
@@ -50,7 +50,7 @@ fn run(rt: &HostRuntime) -> anyhow::Result<()> {
         Err(Unread::NoMemory) => return Err(anyhow!("no memory")),
     };
     let mut out = BufWriter::new(heap, rt.stdout())?;
-    print(&mut out, &week)?;
+    print_week(&mut out, &week)?;
     out.flush()?;
     Ok(())
 }

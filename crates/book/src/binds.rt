@@ -32,7 +32,7 @@ pub(crate) fn guard_bound(heads: &[Head], guard: Guard) -> bool
 fn working_bound(heads: &[Head], working: Working<Operand>) -> bool
     ensures value { result ≡ working_bound heads.now working }
 {
-    // Kept as a match: a method of the working would take a closure, and no public call asks that it may be called.
+    // Kept as a match: it hands on no closure that has to be shown callable.
     match working {
         Working::Copy(a) => bound(heads, a),
         Working::Sum(a, b) | Working::Difference(a, b) => bound(heads, a) && bound(heads, b),

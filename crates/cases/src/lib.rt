@@ -1,6 +1,8 @@
-//! The worked cases, run through the library: runs over a flat store, with either host and order.
+//! The worked cases, run through the library: runs over a flat store, with either host and order, their
+//! printouts, and the calls of numbers and workings.
 //!
-//! Expected values are worked out by hand from the rules of the engine. Nothing stands above.
+//! Expected values are worked out by hand from the rules of the engine and of its printout. Nothing stands
+//! above.
 #![tactic(auto)]
 
 pub mod books;

@@ -8,8 +8,12 @@ use meaning::answers::Stepped;
 use meaning::refusal::{Numbers, Refusal, Site};
 use order::banded::Banded;
 use order::plain::Plain;
+use report::conduct::Ended;
+use report::outcome::{Outcome, Refused};
+use report::print::{print, print_week};
 use run::run::Run;
 use std::test::Fail;
+use store::flat::Flat;
 
 #[test]
 fn shortest_paths(rt: HostRuntime) -> Result<(), Fail> {
@@ -186,5 +190,66 @@ fn a_roll_takes_1024_entries(rt: HostRuntime) -> Result<(), Fail> {
         Err(Refusal::RollFull(Site::HandIn))
     );
     assert_eq!(rt; run.step(), Err(Refusal::RollFull(Site::Rule(1))));
+    Ok(())
+}
+
+#[test]
+fn a_working_is_made_anew_of_its_operands(rt: HostRuntime) {
+    let tens = |n: u8| u32::from(n) * 10;
+    assert_eq!(rt; Working::Copy(7).map(tens), Working::Copy(70));
+    assert_eq!(rt; Working::Sum(7, 9).map(tens), Working::Sum(70, 90));
+    assert_eq!(rt;
+        Working::Difference(7, 9).map(tens),
+        Working::Difference(70, 90)
+    );
+}
+
+#[test]
+fn each_operand_of_a_working_is_tested(rt: HostRuntime) {
+    let large = |n: u8| n > 4;
+    assert!(rt; Working::Copy(5).all(large));
+    assert!(rt; !Working::Copy(4).all(large));
+    assert!(rt; Working::Sum(5, 6).all(large));
+    assert!(rt; !Working::Sum(4, 6).all(large));
+    assert!(rt; !Working::Difference(5, 4).all(large));
+}
+
+#[test]
+fn a_run_that_ended_is_printed(rt: HostRuntime) -> Result<(), Fail> {
+    let heap = rt.alloc();
+    let book = book_of(heap, &PAIRS)?.ok_or("unread")?;
+    let Ok(run) = Run::open(heap, book, flat(heap, 4)?, Counts, Plain) else {
+        return Err(Fail::new("no memory"));
+    };
+    let mut run = run;
+    let _ = run.hand_in(1, [7, 0, 0]);
+    let _ = run.hand_in(1, [-2, 0, 0]);
+    let outcome = Outcome::from(run.run(9).ending);
+    let ended = Ended { run, outcome };
+    let lines: &[u8] =
+        b"T 1 1 7 0 0\nT 2 1 -2 0 0\nF 1 1 2 0 0\nF 1 2 1 0 0\nS 1 1 7 0 0\nS 2 1 -2 0 0\nfinal\n";
+    let mut out = Vec::new(heap);
+    print(&mut out, &ended)?;
+    assert_eq!(rt; out.as_slice(), lines);
+    let mut again = Vec::new(heap);
+    print_week(&mut again, &Ok(ended))?;
+    assert_eq!(rt; again.as_slice(), lines);
+    Ok(())
+}
+
+#[test]
+fn a_refused_reading_is_printed(rt: HostRuntime) -> Result<(), Fail> {
+    let refused = Refused {
+        number: 3,
+        place: 8180,
+        fact: 0,
+        working: 0,
+        cause: 0,
+    };
+    let line: &[u8] = b"refused 3 8180 0 0 0\n";
+    let mut out = Vec::new(rt.alloc());
+    let week: Result<Ended<Flat, Counts, Plain>, Refused> = Err(refused);
+    print_week(&mut out, &week)?;
+    assert_eq!(rt; out.as_slice(), line);
     Ok(())
 }

@@ -92,7 +92,7 @@ fn value_at<H: Host>(
 fn put(env: Env, working: Working<Operand>) -> Working<Value>
     ensures value { result ≡ put env working }
 {
-    // Kept as a match: a method of the working would take a closure, and no public call asks that it may be called.
+    // Kept as a match: it hands on no closure that has to be shown callable.
     match working {
         Working::Copy(a) => Working::Copy(worth(env, a)),
         Working::Sum(a, b) => Working::Sum(worth(env, a), worth(env, b)),

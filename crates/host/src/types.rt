@@ -1,6 +1,6 @@
 ghost use Rattle.std.specs.Prelude.{◌≡◌};
 ghost use Rattle.host.specs.Causes.{cause_number};
-ghost use Rattle.host.specs.Workings.{ForOperands, Passed};
+ghost use Rattle.host.specs.Workings.{ForOperands, Mapped, Passed};
 
 /// How a guard compares two numbers.
 #[derive(Clone, Copy, PartialEq, Eq, Debug)]
@@ -20,9 +20,20 @@ pub enum Working<T> {
 }
 
 impl<T: Copy> Working<T> {
-    // Whether each operand passes a test.
-    // Kept to this crate: what calls a closure asks that it may be called, and no public call asks anything.
-    pub(crate) fn all<F: Fn(T) -> bool>(self, test: F) -> bool
+    /// The same working of what f makes of each operand. It asks that f may be called with each.
+    pub fn map<U, F: Fn(T) -> U>(self, f: F) -> Working<U>
+        requires { ForOperands (F.pre f) self }
+        ensures { Mapped (F.post f) self result }
+    {
+        match self {
+            Working::Copy(a) => Working::Copy(f(a)),
+            Working::Sum(a, b) => Working::Sum(f(a), f(b)),
+            Working::Difference(a, b) => Working::Difference(f(a), f(b)),
+        }
+    }
+
+    /// Whether each operand passes a test. It asks that the test may be called with each.
+    pub fn all<F: Fn(T) -> bool>(self, test: F) -> bool
         requires { ForOperands (F.pre test) self }
         ensures { Passed (F.post test) self result }
     {

@@ -8,11 +8,23 @@ use std::io;
 use std::io::Write;
 use store::Store;
 
-/// Prints the roll, the store in rising id and the last line; of a refused reading that line alone.
+/// Prints the roll, the store in rising id and the last line.
 pub fn print<S: Store, H: Host, O: Order>(
+    out: &mut impl Write,
+    week: &Ended<S, H, O>,
+) -> io::Result<()> {
+    let Ended { run, outcome } = week;
+    roll_lines(out, run.roll())?;
+    store_lines(out, run)?;
+    writeln!(out, "{outcome}")
+}
+
+/// Prints a run that ended; of a refused reading the one line that says so.
+pub fn print_week<S: Store, H: Host, O: Order>(
     out: &mut impl Write,
     week: &Result<Ended<S, H, O>, Refused>,
 ) -> io::Result<()> {
+    // Kept as lines of its own: with a call of `print` in their place the program takes more steps.
     match week {
         Err(refused) => writeln!(out, "{refused}"),
         Ok(Ended { run, outcome }) => {
