@@ -1,5 +1,5 @@
 //! The worked cases, run through the library: runs over a flat store, with either host and order, their
-//! printouts, and the calls of numbers and workings.
+//! printouts, and the calls of a host and of a working.
 //!
 //! Expected values are worked out by hand from the rules of the engine and of its printout. Nothing stands
 //! above.

@@ -19,12 +19,12 @@ pub fn print<S: Store, H: Host, O: Order>(
     writeln!(out, "{outcome}")
 }
 
-/// Prints a run that ended; of a refused reading the one line that says so.
+/// Prints the roll, the store in rising id and the last line; of a refused reading that line alone.
 pub fn print_week<S: Store, H: Host, O: Order>(
     out: &mut impl Write,
     week: &Result<Ended<S, H, O>, Refused>,
 ) -> io::Result<()> {
-    // Kept as lines of its own: with a call of `print` in their place the program takes more steps.
+    // Kept as lines of its own: with a call of `print` in their place a run takes more instructions.
     match week {
         Err(refused) => writeln!(out, "{refused}"),
         Ok(Ended { run, outcome }) => {
